@@ -9,7 +9,7 @@ use Rattle.bor_chains.specs.declared.marks.Mark.{Mark}
 use Rattle.bor_chains.specs.declared.marks.Mark.TheVariants.{Target, Middle, Holder}
 use Rattle.bor_chains.specs.declared.marks.Marked.{Marked}
 use Rattle.bor_chains.specs.Chains.{IsChain}
-use Rattle.bor_chains.specs.Marks.{counts_at, IsCounted}
+use Rattle.bor_chains.specs.Marks.{counts_at, CountsAt}
 use Rattle.bor_chains.specs.Trail.{Down, DownAs, LeadsAs, LeadsTo}
 use Rattle.bor_chains.proofs.Reach.{chain_starts, chain_on}
 
@@ -17,7 +17,7 @@ pub same_then : (s : Shown) (a b c : Node) → Same s a b → Same s b c → Sam
 same_then s a b c h k = same_reached s (λ n. Same s a n) (λ x y p l. same_more s a p.0 x y p.1 l) b k.0 c k.1 h
 
 -- a link that counts at a mark is the first of a chain
-pub link_down : (s : Shown) (e : Node) (m : Marked) (l : Link) (ls : List Link) → Down s e m ls → IsCounted s m l → IsChain s l.party (l ∷ ls) e
+pub link_down : (s : Shown) (e : Node) (m : Marked) (l : Link) (ls : List Link) → Down s e m ls → CountsAt s m l → IsChain s l.party (l ∷ ls) e
 link_down s e m l ls down c = at m.mark down c.counted
   where
     at : (mark : Mark) → DownAs s e m.node mark ls → IsTrue (counts_at mark l) → IsChain s l.party (l ∷ ls) e
@@ -26,7 +26,7 @@ link_down s e m l ls down c = at m.mark down c.counted
     at Holder h k = let no : false ≡ true = k in absurd cc
 
 -- .. and it leads up from there
-pub down_more : (s : Shown) (e : Node) (m n : Marked) (l : Link) (ls : List Link) → Down s e m ls → IsCounted s m l → LeadsTo s l n → Down s e n (l ∷ ls)
+pub down_more : (s : Shown) (e : Node) (m n : Marked) (l : Link) (ls : List Link) → Down s e m ls → CountsAt s m l → LeadsTo s l n → Down s e n (l ∷ ls)
 down_more s e m n l ls down c leads = to n.mark leads
   where
     chain : IsChain s l.party (l ∷ ls) e
@@ -41,10 +41,10 @@ down_more s e m n l ls down c leads = to n.mark leads
 pub record IsFirstDown (s : Shown) (e : Node) (n : Marked) (l : Link) (ls : List Link) : Type 0 where
   pub mark : Marked
   pub down : Down s e mark ls
-  pub is_counted : IsCounted s mark l
+  pub is_counted : CountsAt s mark l
   pub leads : LeadsTo s l n
 
-first_below : (s : Shown) (e a : Node) (l : Link) (ls : List Link) → IsChain s a (l ∷ ls) e → (m : Marked) × Down s e m ls × IsCounted s m l
+first_below : (s : Shown) (e a : Node) (l : Link) (ls : List Link) → IsChain s a (l ∷ ls) e → (m : Marked) × Down s e m ls × CountsAt s m l
 first_below s e a l [] h = (record { node = l.subject; mark = Target }, (h.3, refl), record { listed = h.0; into = refl; counted = h.2 })
 first_below s e a l (k ∷ ls) h = (record { node = l.subject; mark = Middle }, (k.party, h.3, h.4, h.5), record { listed = h.0; into = refl; counted = h.2 })
 
@@ -75,7 +75,7 @@ pub marked_is : (m n : Marked) → m.node ≡ n.node → m.mark ≡ n.mark → m
 marked_is m n e f = ap (λ (x : Node). let k : Marked = record { node = x; mark = m.mark } in k) e ∙ ap (λ (x : Mark). let k : Marked = record { node = n.node; mark = x } in k) f
 
 -- two marks of one level at which one link counts are one
-pub one_mark : (s : Shown) (e : Node) (m n : Marked) (l : Link) (ls ks : List Link) → Down s e m ls → Down s e n ks → length ls ≡ length ks → IsCounted s m l → IsCounted s n l → m ≡ n
+pub one_mark : (s : Shown) (e : Node) (m n : Marked) (l : Link) (ls ks : List Link) → Down s e m ls → Down s e n ks → length ls ≡ length ks → CountsAt s m l → CountsAt s n l → m ≡ n
 one_mark s e m n l ls ks a b long c d = marked_is m n (sym c.into ∙ d.into) (at m.mark n.mark ls ks a b long c.counted d.counted)
   where
     at : (x y : Mark) (us vs : List Link) → DownAs s e m.node x us → DownAs s e n.node y vs → length us ≡ length vs → IsTrue (counts_at x l) → IsTrue (counts_at y l) → x ≡ y

@@ -28,9 +28,9 @@ use Rattle.bor_chains.specs.declared.marks.Marked.{Marked}
 use Rattle.bor_chains.specs.declared.trail.Step.{Step}
 use Rattle.bor_chains.specs.declared.trail.Trail.{Trail}
 use Rattle.bor_chains.specs.Evidence.{IsNotAfter}
-use Rattle.bor_chains.specs.Marks.{IsOneOf, IsCounted}
+use Rattle.bor_chains.specs.Marks.{IsOneOf, CountsAt}
 use Rattle.bor_chains.specs.Crossings.{crossing_cmp, IsCrossing, AreCrossings}
-use Rattle.bor_chains.specs.Trail.{Down, DownAs, IsLeastDown, LeadsAs, LeadsTo, ReadsOff, StandsAt, Gives, AreWhole, IsByFirst, FollowsTo, TellsAs, IsReached, IsAtLevel, IsAll}
+use Rattle.bor_chains.specs.Trail.{Down, DownAs, IsLeastDown, LeadsAs, LeadsTo, ReadsOff, StandsAt, GivesMarks, AreWhole, IsByFirst, FollowsTo, TellsAs, IsReached, IsAtLevel, IsAll}
 use Rattle.bor_chains.specs.Lines.{link_total}
 use Rattle.bor_chains.proofs.Least.{less_first, same_first, shorter, itself}
 use Rattle.bor_chains.proofs.Down.{down_more, IsFirstDown, down_first, down_none, one_mark}
@@ -58,7 +58,7 @@ in_turn cs sorted i j c d le one two = not_greater c d
 
 -- ---- the start
 
-pub level_start : (s : Shown) (e : Node) (nodes : List Node) (a w : Trail) → a.marks ≡ [] → a.steps.items ≡ [] → AreSame s e nodes → Gives (IsOneOf nodes Target) None a w → IsAtLevel s e 0 0 w
+pub level_start : (s : Shown) (e : Node) (nodes : List Node) (a w : Trail) → a.marks ≡ [] → a.steps.items ≡ [] → AreSame s e nodes → GivesMarks (IsOneOf nodes Target) None a w → IsAtLevel s e 0 0 w
 level_start s e nodes a w no_marks no_steps all g = record { whole = whole; beside = beside; each = each; near = near; tells = tells }
   where
     is_target : (m : Marked) → Contains w.marks m → Same s m.node e × (m.mark ≡ Target)
@@ -107,7 +107,7 @@ record IsCrossedTo (s : Shown) (e : Node) (start : ℕ) (a : Trail) (m : Marked)
   is : slice_get a.marks below ≡ Some mark
   above : start ≤ below
   down : Down s e mark ks
-  is_counted : IsCounted s mark k
+  is_counted : CountsAt s mark k
   leads : LeadsTo s k m
 
 crossed_to : (s : Shown) (e : Node) (start level : ℕ) (a : Trail) → IsAtLevel s e start level a → (m : Marked) (k : Link) (ks : List Link) → Down s e m (k ∷ ks) → length ks ≤ level → Contains a.marks m ⊎ IsCrossedTo s e start a m k ks
@@ -151,7 +151,7 @@ level_step s e start level a w cs at all sorted whole f = record { whole = whole
         with_link : (t : IsCrossedTo s e start a m k ks) → length r.chain ≡ length ks → (link_cmp (b.crossing).link k ≡ Less) ⊎ ((b.crossing).link ≡ k) → IsNotAfter ((b.crossing).link ∷ r.chain) (k ∷ ks)
         with_link t lens (inl less) = less_first (b.crossing).link k r.chain ks lens less
         with_link t lens (inr same) =
-            let one = one_mark s e x.mark t.mark (b.crossing).link r.chain ks (r.least).down t.down lens x.is_counted (subst (λ (z : Link). IsCounted s t.mark z) (sym same) t.is_counted) in
+            let one = one_mark s e x.mark t.mark (b.crossing).link r.chain ks (r.least).down t.down lens x.is_counted (subst (λ (z : Link). CountsAt s t.mark z) (sym same) t.is_counted) in
             let rest = (r.least).least ks (subst (λ (n : Marked). Down s e n ks) (sym one) t.down) in
             subst (λ (z : Link). IsNotAfter ((b.crossing).link ∷ r.chain) (z ∷ ks)) same (same_first (b.crossing).link r.chain ks lens rest)
 

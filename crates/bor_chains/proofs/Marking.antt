@@ -9,13 +9,13 @@ use Rattle.bor_chains.specs.declared.marks.Mark.{Mark}
 use Rattle.bor_chains.specs.declared.trail.Step.{Step}
 use Rattle.bor_chains.specs.declared.trail.Trail.{Trail}
 use Rattle.bor_chains.specs.Marks.{IsOneOf, IsSameAs}
-use Rattle.bor_chains.specs.Trail.{Gives}
+use Rattle.bor_chains.specs.Trail.{GivesMarks}
 
 pub grown_longer : {X : Type 0} (P : X → Type 0) (a b : List X) → Grown P a b → length a ≤ length b
 grown_longer P a b g = let z = ap (λ xs. length xs) g.begins in omega (arith, z, length-append a g.rest)
 
 -- all that are the same as a node
-pub gives_class : (s : Shown) (n : Node) (mark : Mark) (nodes : List Node) (o : Option Step) (a b : Trail) → AreSame s n nodes → Gives (IsOneOf nodes mark) o a b → Gives (IsSameAs s n mark) o a b
+pub gives_class : (s : Shown) (n : Node) (mark : Mark) (nodes : List Node) (o : Option Step) (a b : Trail) → AreSame s n nodes → GivesMarks (IsOneOf nodes mark) o a b → GivesMarks (IsSameAs s n mark) o a b
 gives_class s n mark nodes o a b all g = record {
   marks = grown_like (IsOneOf nodes mark) (IsSameAs s n mark) a.marks b.marks g.marks (λ m p. ((all.each m.node).0 p.0, p.1)) (λ m p. ((all.each m.node).1 p.0, p.1));
   steps = g.steps;

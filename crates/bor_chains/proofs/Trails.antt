@@ -17,7 +17,7 @@ use Rattle.bor_chains.specs.declared.marks.Marked.{Marked}
 use Rattle.bor_chains.specs.declared.trail.Step.{Step}
 use Rattle.bor_chains.specs.declared.trail.Trail.{Trail}
 use Rattle.bor_chains.specs.Marks.{IsSameAs}
-use Rattle.bor_chains.specs.Trail.{LeadsAs, LeadsTo, step_by, ReadsOff, StandsAt, AreBeside, Gives, GivesUnlessThere, AreWhole, IsLonger, Follows, FollowsTo}
+use Rattle.bor_chains.specs.Trail.{LeadsAs, LeadsTo, step_by, ReadsOff, StandsAt, AreBeside, GivesMarks, GivesUnlessThere, AreWhole, IsLonger, Follows, FollowsTo}
 use Rattle.bor_chains.proofs.Down.{same_then, marked_is}
 
 -- ---- places
@@ -112,7 +112,7 @@ follows_given s c info marked P a b told into from back all h = elim h [
   | inr p ↦ given p.0 p.1
 ]
   where
-    given : (Contains a.marks marked → ⊥) → Gives P (Some (step_by c info)) a b → Follows s c a b
+    given : (Contains a.marks marked → ⊥) → GivesMarks P (Some (step_by c info)) a b → Follows s c a b
     given gone g = record {
       longer = record {
         rest = g.marks.rest;

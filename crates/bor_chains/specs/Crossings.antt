@@ -10,7 +10,7 @@ use Rattle.bor_records.specs.Links.Shown.{Shown}
 use Rattle.bor_chains.specs.declared.crossed.Crossing.{Crossing}
 use Rattle.bor_chains.specs.declared.marks.Mark.{Mark}
 use Rattle.bor_chains.specs.declared.marks.Marked.{Marked}
-use Rattle.bor_chains.specs.Marks.{counts_at, IsCounted}
+use Rattle.bor_chains.specs.Marks.{counts_at, CountsAt}
 
 -- by link, then by place
 abbrev pub crossing_cmp : Crossing → Crossing → Ordering
@@ -27,7 +27,7 @@ pub record IsCountedOf (links : List Link) (mark : Mark) (below : ℕ) (c : Cros
   pub counted : IsTrue (counts_at mark c.link)
 
 -- the same, but that some links are left
-pub record AreCounted (links : List Link) (mark : Mark) (below : ℕ) (left : List Link)
+pub record AreCountedSoFar (links : List Link) (mark : Mark) (below : ℕ) (left : List Link)
     (old new : List Crossing) : Type 0 where
   pub rest : List Crossing
   pub begins : new ≡ old ++ rest
@@ -38,7 +38,7 @@ pub record AreCounted (links : List Link) (mark : Mark) (below : ℕ) (left : Li
 
 -- a link that counts at the mark, with this place
 pub record IsCrossingInto (s : Shown) (m : Marked) (below : ℕ) (c : Crossing) : Type 0 where
-  pub is_counted : IsCounted s m c.link
+  pub is_counted : CountsAt s m c.link
   pub place : c.below ≡ below
 
 -- a link that counts at one of the marks from `start` on and before `end`
@@ -48,7 +48,7 @@ pub record IsCrossing (s : Shown) (marks : List Marked) (start end : ℕ)
   pub is : slice_get marks c.below ≡ Some mark
   pub above : start ≤ c.below
   pub before : c.below < end
-  pub is_counted : IsCounted s mark c.link
+  pub is_counted : CountsAt s mark c.link
 
 -- exactly those
 abbrev pub AreCrossings : Shown → List Marked → ℕ → ℕ → List Crossing → Type 0

@@ -72,7 +72,7 @@ abbrev pub AreBeside : Trail → Type 0
 AreBeside w = length w.steps.items ≡ length w.marks
 
 -- exactly the marks of P are given, each with the step
-pub record Gives (P : Marked → Type 0) (step : Option Step) (old new : Trail) : Type 0 where
+pub record GivesMarks (P : Marked → Type 0) (step : Option Step) (old new : Trail) : Type 0 where
   pub marks : Grown P old.marks new.marks
   pub steps : IsFilled (length new.marks) step old.steps.items new.steps.items
 
@@ -80,7 +80,7 @@ pub record Gives (P : Marked → Type 0) (step : Option Step) (old new : Trail) 
 abbrev pub GivesUnlessThere : Marked → (Marked → Type 0) → Option Step → Trail → Trail → Type 0
 GivesUnlessThere marked P step old new =
     (Contains old.marks marked × (new ≡ old))
-    ⊎ ((Contains old.marks marked → ⊥) × Gives P step old new)
+    ⊎ ((Contains old.marks marked → ⊥) × GivesMarks P step old new)
 
 -- with an entity in the middle all that are the same have the mark
 abbrev pub AreWhole : Shown → List Marked → Type 0

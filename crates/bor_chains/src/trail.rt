@@ -7,7 +7,7 @@ ghost use Rattle.bor_records.specs.declared.links.node.NodeInfo.TheVariants as i
 ghost use Rattle.bor_chains.specs.declared.marks.Mark.TheVariants.{Middle, Holder};
 ghost use Rattle.bor_chains.specs.Promises.{WalkAccounts};
 ghost use Rattle.bor_chains.specs.Marks.{IsOneOf, IsSameAs};
-ghost use Rattle.bor_chains.specs.Trail.{step_by, IsFilled, Gives, GivesUnlessThere, AreBeside, AreWhole, Follows, FollowsTo, IsAtLevel, IsAll};
+ghost use Rattle.bor_chains.specs.Trail.{step_by, IsFilled, GivesMarks, GivesUnlessThere, AreBeside, AreWhole, Follows, FollowsTo, IsAtLevel, IsAll};
 
 use crate::crossed::{Crossing, crossings_from, in_order};
 use crate::fault::WalkFault;
@@ -88,7 +88,7 @@ impl Trail {
         step: Option<Step>,
     ) -> Result<(), AllocError>
         ensures longer { OnOk result (length self.old.marks ≤ length self.new.marks) }
-        ensures gives { OnOk result (Gives (IsOneOf nodes.now mark) step self.old self.new) }
+        ensures gives { OnOk result (GivesMarks (IsOneOf nodes.now mark) step self.old self.new) }
     {
         self.marks.add_all(alloc, nodes, mark)?;
         fill(alloc, &mut self.steps, self.marks.len(), step)?;

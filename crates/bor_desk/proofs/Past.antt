@@ -91,7 +91,7 @@ module _ (day : ℤ) (rows others : List Row) (same : dated_by day rows ≡ date
 none_named : (day : ℤ) → None ≡ Some day → ⊥
 none_named day h = cc
 
-pub later_statements_change_no_past : laws.LaterStatementsChangeNoPast
+pub later_statements_change_no_past : laws.LaterStatementsChangeNoAnswer
 later_statements_change_no_past name day r q (ask.Snapshot agent declaration date) reply is same told =
     subst (λ (a : Answer). IsTold a reply)
     (ap (λ (d : Option ℤ). snapshot_answer (seen_by name r) agent declaration (unwrap_or d r.day)) is

@@ -57,11 +57,11 @@ check_report bytes =
 -- ---- parts of the check, for clauses of private functions alone
 
 -- this text was made, or memory was wanting
-pub record IsMade (wanted : Text) (made : Result Text StoreFault) : Type 0 where
+pub record IsTextMade (wanted : Text) (made : Result Text StoreFault) : Type 0 where
   pub text : IfOk made (λ text. text ≡ wanted)
   pub err : IfErr made (λ fault. fault ≡ Memory)
 
 -- a refusal is answered by its text, and a fault of the store is passed on
 abbrev pub IsFaultTold : DeskFault → Result Text StoreFault → Type 0
-IsFaultTold (Refused why) made = IsMade (refused_text why) made
+IsFaultTold (Refused why) made = IsTextMade (refused_text why) made
 IsFaultTold (Failed fault) made = made ≡ Err fault

@@ -89,7 +89,7 @@ is_long (tell.Register agents day) = true
 is_long reply = false
 
 -- Evidence names exactly the persons that are joined to the entity, those of the report on it.
-pub record EvidenceNamesTheJoined : Type 0 where
+pub record AnsweredEvidenceNamesTheJoined : Type 0 where
   pub joined : (seen : List Row) (entity : Node) (day : ℤ) (told : EntityEvidence)
       → IsEntityEvidence seen entity day told
       → AreJoined (shown_of day seen) entity (map without_first told.persons)
@@ -159,8 +159,8 @@ date_of request = None
 
 -- Where an agent sees the same statements dated by a day, it is told the same of that day, whatever
 -- else the registers hold: statements dated later, and filings that the agent doesn't see.
-abbrev pub LaterStatementsChangeNoPast : Type 0
-LaterStatementsChangeNoPast =
+abbrev pub LaterStatementsChangeNoAnswer : Type 0
+LaterStatementsChangeNoAnswer =
     (name : List ℕ) (day : ℤ) (r q : Register) (request : Request) (reply : DeskReply)
     → date_of request ≡ Some day
     → dated_by day (seen_by name r) ≡ dated_by day (seen_by name q)

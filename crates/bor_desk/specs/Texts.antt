@@ -39,14 +39,15 @@ statement_line place s =
     (type_word (type_of s.details) ∷ settled_word s.status ∷ s.declaration ∷ s.rec ∷ [])
 
 -- the statements of a filing, counted from this place
-abbrev pub statement_lines : ℕ → List Statement → List ℕ
-statement_lines place [] = []
-statement_lines place (s ∷ ss) = statement_line place s ++ statement_lines (place + 1) ss
+abbrev pub filing_statement_lines : ℕ → List Statement → List ℕ
+filing_statement_lines place [] = []
+filing_statement_lines place (s ∷ ss) =
+    statement_line place s ++ filing_statement_lines (place + 1) ss
 
 -- the statements of each published filing, counted from 1 in each
 abbrev pub outward_lines : List Outward → List ℕ
 outward_lines [] = []
-outward_lines (o ∷ os) = statement_lines 1 o.statements ++ outward_lines os
+outward_lines (o ∷ os) = filing_statement_lines 1 o.statements ++ outward_lines os
 
 -- ---- the answer to a lodging
 

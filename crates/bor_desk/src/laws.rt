@@ -1,7 +1,7 @@
 //! Laws of the step. Each function does nothing: its contract is the law.
 
 ghost use Rattle.bor_desk.specs.Outcomes.{AnswerIsDetermined};
-ghost use Rattle.bor_desk.specs.Laws.{EachIsAnswered, EvidenceNamesTheJoined, LaterStatementsChangeNoPast, OwnFilingsUntouched, ReadsLeave, RefusalChangesNothing, StepStaysLegal, OneExchangeAlone, IsolationOfHistories};
+ghost use Rattle.bor_desk.specs.Laws.{EachIsAnswered, AnsweredEvidenceNamesTheJoined, LaterStatementsChangeNoAnswer, OwnFilingsUntouched, ReadsLeave, RefusalChangesNothing, StepStaysLegal, OneExchangeAlone, IsolationOfHistories};
 ghost use Rattle.bor_desk.specs.Standing.{PublishedStays, RegistrarSeesNoDraft, TokenIsRenewed};
 
 /// Two replies that tell one answer are equal.
@@ -12,7 +12,7 @@ pub fn answer_is_determined()
 /// Evidence names exactly the persons from whom a chain leads to the entity in what the caller
 /// sees: those that the report on it names.
 pub fn evidence_names_the_joined()
-    ensures { EvidenceNamesTheJoined }
+    ensures { AnsweredEvidenceNamesTheJoined }
 {}
 
 /// After an exchange the filings of all agents but the one that asks are as they were. An agent
@@ -66,7 +66,7 @@ pub fn each_is_answered()
 /// statement dated later and no filing that the agent doesn't see changes it. This holds of every
 /// register.
 pub fn later_statements_change_no_past()
-    ensures { LaterStatementsChangeNoPast }
+    ensures { LaterStatementsChangeNoAnswer }
 {}
 
 /// What is published stays: the day never goes back, a published filing stays with its file and its

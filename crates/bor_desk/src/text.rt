@@ -1,7 +1,7 @@
 //! Texts that the program prints.
 
 ghost use Rattle.std.specs.Prelude.{◌≡◌, ◌++◌, IfOk, OnOk, string_bytes};
-ghost use Rattle.bor_desk.specs.Texts.{statement_line, statement_lines, outward_lines, accepted_line, refusal_line, place_part, field_part, settled_word, answering, refusing, refused_text};
+ghost use Rattle.bor_desk.specs.Texts.{statement_line, filing_statement_lines, outward_lines, accepted_line, refusal_line, place_part, field_part, settled_word, answering, refusing, refused_text};
 
 use crate::operations::{Lodged, Outward};
 use crate::refusal::Refusal;
@@ -79,7 +79,7 @@ fn add_statement(text: &mut String, place: usize, statement: &Statement) -> Resu
 
 fn add_statements(text: &mut String, statements: &[Statement]) -> Result<(), AllocError>
     ensures { OnOk result
-        (string_bytes text.new ≡ string_bytes text.old ++ statement_lines 1 statements.now) }
+        (string_bytes text.new ≡ string_bytes text.old ++ filing_statement_lines 1 statements.now) }
 {
     for (i, statement) in statements.iter().enumerate() {
         add_statement(text, i + 1, statement)?;

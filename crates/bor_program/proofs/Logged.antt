@@ -5,7 +5,7 @@ use Rattle.bor_http.specs.declared.routes.route.Route.{Route}
 use Rattle.bor_http.specs.declared.routes.route.Route.TheVariants as asks
 use Rattle.bor_http.specs.Routes.Routes.{route_at}
 use Rattle.bor_program.specs.declared.log.Note.{Note}
-use Rattle.bor_program.specs.Logging.{MayAdd, route_method, route_path}
+use Rattle.bor_program.specs.Logging.{MayNote, route_method, route_path}
 
 pub routed : (route : Route) → route_at (route_path route) (route_method route) ≡ Some route
 unfolding route_at
@@ -24,6 +24,6 @@ routed asks.Renew = refl
 routed asks.Register = refl
 
 -- a note is added where there is memory for it
-pub may_add : (P : Note → Type 0) (old new : List Note) (added : Bool) (note : Note) → new ≡ (if added then old ++ note ∷ [] else old) → P note → MayAdd P old new
+pub may_add : (P : Note → Type 0) (old new : List Note) (added : Bool) (note : Note) → new ≡ (if added then old ++ note ∷ [] else old) → P note → MayNote P old new
 may_add P old new true note is h = inr (note, is, h)
 may_add P old new false note is h = inl is

@@ -7,7 +7,7 @@ use Rattle.bor_register.specs.declared.fault.StoreFault.TheVariants as fault
 use Rattle.bor_program.specs.declared.failure.Failure.{Failure}
 use Rattle.bor_program.specs.declared.failure.Failure.TheVariants.{Unreadable, NoRegister, OtherVersion, Taken, Registered, NoToken, Memory, Store, Unlistening, Unwritable}
 use Rattle.bor_program.specs.Failures.{IsMetIn, IsMetListening, IsMetOnKeep, IsOpeningOf, IsWantOfMemory, LeavesOutput, failure_line, failure_of}
-use Rattle.bor_program.specs.Courses.{Course, IsDone}
+use Rattle.bor_program.specs.Courses.{Course, IsOnlyDeed}
 use Rattle.bor_program.specs.Deeds.{Deed, Fails}
 use Rattle.bor_program.specs.Performing.{FailsToOpen}
 use Rattle.bor_desk.specs.CheckReport.{check_report}
@@ -47,7 +47,7 @@ pub met_opening : (path : Bor Text) (known : Option (List ℕ)) (failure : Failu
 met_opening path known failure h = record { cause = inl h; output = leaves known known failure (keeps_same known) }
 
 pub fails_to_open : {M K : Type 0} (files : Course M (Deed K)) (path : Bor Text) (streams : Streams) (failure : Failure) → streams.status ≡ 3 → Keeps streams.output streams.printed
-    → IsDone files (Fails path failure) → IsOpeningOf path failure → AppendsPart streams.errors streams.told (failure_line failure) → FailsToOpen files path streams
+    → IsOnlyDeed files (Fails path failure) → IsOpeningOf path failure → AppendsPart streams.errors streams.told (failure_line failure) → FailsToOpen files path streams
 fails_to_open files path streams failure three kept fails h line =
     record { status_is = three; kept = kept; failure = failure; fails = fails; cause = h; line = line }
 

@@ -8,5 +8,5 @@ pub record Course (M D : Type 0) : Type 1 where
   pub ended : M
 
 -- this deed, and no other, leads from the state before to the one after
-abbrev pub IsDone : {M D : Type 0} → Course M D → D → Type 0
-IsDone course deed = course.does course.begun deed course.ended
+abbrev pub IsOnlyDeed : {M D : Type 0} → Course M D → D → Type 0
+IsOnlyDeed course deed = course.does course.begun deed course.ended

@@ -30,9 +30,9 @@ MayTell meaning old fault new =
     IsTellable meaning.may_tell (meaning.fault_count old) (meaning.fault_count new) fault)
 
 -- the texts one after the other
-abbrev pub joined : List (List ℕ) → List ℕ
-joined [] = []
-joined (text ∷ texts) = text ++ joined texts
+abbrev pub texts_joined : List (List ℕ) → List ℕ
+texts_joined [] = []
+texts_joined (text ∷ texts) = text ++ texts_joined texts
 
 -- the line that is printed of a failure, or nothing where it is standard output that can't be
 -- written

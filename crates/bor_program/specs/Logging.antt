@@ -12,7 +12,7 @@ use Rattle.bor_http.specs.declared.incoming.fault.Path.TheVariants as paths
 use Rattle.bor_http.specs.declared.routes.route.Route.{Route}
 use Rattle.bor_http.specs.declared.routes.route.Route.TheVariants as asks
 use Rattle.bor_http.specs.Routes.Routes.{path_word, route_at}
-use Rattle.bor_wire.specs.Spelling.Parts.{path_in}
+use Rattle.bor_wire.specs.Spelling.Parts.{path_spelled}
 use Rattle.bor_wire.specs.declared.outgoing.Outgoing.{Outgoing}
 use Rattle.bor_wire.specs.Exchanges.{NamesWhoAsks, bytes_out, status_out}
 use Rattle.bor_program.specs.declared.log.Asked.{Asked}
@@ -20,7 +20,7 @@ use Rattle.bor_program.specs.declared.log.Asked.TheVariants as asked
 use Rattle.bor_program.specs.declared.log.Entry.{Entry}
 use Rattle.bor_program.specs.declared.log.Moment.{Moment}
 use Rattle.bor_program.specs.declared.log.Note.{Note}
-use Rattle.bor_program.specs.Splitting.{before, behind}
+use Rattle.bor_program.specs.Splitting.{before_byte, behind_byte}
 
 -- ---- the request
 
@@ -33,8 +33,9 @@ asked_at (Some path) method = option_map_or asked.Route (route_at path method) (
 -- space
 unfoldable pub asked_of : List ℕ → Asked
 asked_of input =
-    let first = before 10 input in
-    asked_at (path_in (before 63 (before 32 (behind 32 first)))) (before 32 first)
+    let first = before_byte 10 input in
+    asked_at (path_spelled (before_byte 63 (before_byte 32 (behind_byte 32 first))))
+    (before_byte 32 first)
 
 -- the path of a route, and its method
 abbrev pub route_path : Route → Path
@@ -95,8 +96,8 @@ pub record IsNoteOf (promised : (Register → Type 0) → Type 0) (request : Lis
   pub agent : promised (λ r. NamesWhoAsks r request (record { agent = note.agent; outgoing = out }))
 
 -- the notes are as they were, or with one more, of which P holds
-abbrev pub MayAdd : (Note → Type 0) → List Note → List Note → Type 0
-MayAdd P old new = (new ≡ old) ⊎ ((note : Note) × (new ≡ old ++ note ∷ []) × P note)
+abbrev pub MayNote : (Note → Type 0) → List Note → List Note → Type 0
+MayNote P old new = (new ≡ old) ⊎ ((note : Note) × (new ≡ old ++ note ∷ []) × P note)
 
 -- ---- when
 
@@ -122,12 +123,12 @@ abbrev pub numbers_text : ℕ → ℕ → ℕ → List ℕ
 numbers_text status bytes millis =
     decimal status ++ codes " " ++ decimal bytes ++ codes " " ++ decimal millis
 
-abbrev pub agent_text : Option (Bor (Text NameForm)) → List ℕ
-agent_text agent = option_map_or (λ name. name.now) agent untold
+abbrev pub agent_shown : Option (Bor (Text NameForm)) → List ℕ
+agent_shown agent = option_map_or (λ name. name.now) agent untold
 
 -- when, what was asked for, the reply's status and bytes, milliseconds, and the agent
 abbrev pub entry_line : Entry → List ℕ
 entry_line entry =
     moment_text entry.at ++ codes " " ++ asked_text entry.asked ++ codes " "
     ++ numbers_text entry.status entry.bytes entry.millis
-    ++ codes " " ++ agent_text entry.agent ++ codes "\n"
+    ++ codes " " ++ agent_shown entry.agent ++ codes "\n"

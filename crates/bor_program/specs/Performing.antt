@@ -26,7 +26,7 @@ use Rattle.bor_program.specs.declared.failure.Failure.{Failure}
 use Rattle.bor_program.specs.declared.failure.Failure.TheVariants.{Registered}
 use Rattle.bor_program.specs.declared.host.Origin.{Origin}
 use Rattle.bor_program.specs.declared.host.Origin.TheVariants.{Found, New}
-use Rattle.bor_program.specs.Courses.{Course, IsDone}
+use Rattle.bor_program.specs.Courses.{Course, IsOnlyDeed}
 use Rattle.bor_program.specs.Deeds.{ComesToBe, Deed, Fails, Moves, Opens, Visits}
 use Rattle.bor_program.specs.Failures.{IsMetIn, IsMetListening, IsMetOn, IsMetOnKeep, IsOpeningOf}
 use Rattle.bor_program.specs.Failures.{IsFailureWritten, TellsFiles, failure_line}
@@ -66,7 +66,7 @@ pub record FailsToOpen {M K : Type 0} (files : Course M (Deed K)) (path : Bor Wo
   pub status_is : streams.status ≡ 3
   pub kept : Keeps streams.output streams.printed
   pub failure : Failure
-  pub fails : IsDone files (Fails path failure)
+  pub fails : IsOnlyDeed files (Fails path failure)
   pub cause : IsOpeningOf path failure
   pub line : AppendsPart streams.errors streams.told (failure_line failure)
 
@@ -230,9 +230,9 @@ migrated = answering (codes "version 2" ++ 10 ∷ [])
 
 -- The register in the file is moved, and the version is printed; or the line of a failure is
 -- printed.
-pub record Migrates {M K : Type 0} (files : Course M (Deed K)) (asked : Migrate)
+pub record PerformsMigration {M K : Type 0} (files : Course M (Deed K)) (asked : Migrate)
     (streams : Streams) : Type 0 where
-  pub moved : FailsToOpen files asked.db streams ⊎ IsDone files (Moves asked.db)
+  pub moved : FailsToOpen files asked.db streams ⊎ IsOnlyDeed files (Moves asked.db)
   pub text : IsWrittenOrCutOff migrated streams.output streams.printed streams.status
   pub silent : streams.status ≤ 1 → Keeps streams.errors streams.told
   pub line : streams.status ≡ 3
@@ -266,7 +266,7 @@ Performs system files (command.Serve asked) input rest streams =
 Performs system files (command.Report asked) input rest streams =
     Keeps input rest × Reports system.meaning system.tells files asked streams
 Performs system files (command.Migrate asked) input rest streams =
-    Keeps input rest × Migrates files asked streams
+    Keeps input rest × PerformsMigration files asked streams
 
 -- ---- the meaning of status 1
 

@@ -24,7 +24,8 @@ abbrev pub report_status : Bool → ℕ
 report_status refused = if refused then 1 else 0
 
 -- exactly the text was written, and the exit status says whether it is a refusal
-pub record IsWritten (wanted : Text) (before after : Option (List ℕ)) (status : ℕ) : Type 0 where
+pub record IsTextWritten (wanted : Text) (before after : Option (List ℕ)) (status : ℕ)
+    : Type 0 where
   pub text : Appends before after wanted.bytes
   pub told : status ≡ report_status wanted.refused
 
@@ -36,13 +37,13 @@ pub record IsCutOff (wanted : Text) (before after : Option (List ℕ)) (status :
 -- the text was written, or the run failed on the way
 abbrev pub IsWrittenOrCutOff : Text → Option (List ℕ) → Option (List ℕ) → ℕ → Type 0
 IsWrittenOrCutOff text before after status =
-    IsWritten text before after status ⊎ IsCutOff text before after status
+    IsTextWritten text before after status ⊎ IsCutOff text before after status
 
 -- the text was written, with the end's status; where the end is a fault, a front of it was
 abbrev pub EndsText : {F : Type 0} → Text → Option (List ℕ) → Option (List ℕ)
     → Result Status F → Type 0
 EndsText text before after end =
-    MatchResult end (λ status. IsWritten text before after (exit_code status))
+    MatchResult end (λ status. IsTextWritten text before after (exit_code status))
     (λ _. AppendsPart before after text.bytes)
 
 -- ---- the report on a file

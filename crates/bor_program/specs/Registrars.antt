@@ -9,11 +9,11 @@ use Rattle.bor_words.specs.declared.registrar.RegistrarSource.TheVariants as sou
 use Rattle.bor_words.specs.declared.source.Source.TheVariants.{File}
 use Rattle.bor_program.specs.declared.failure.Failure.{Failure}
 use Rattle.bor_program.specs.declared.failure.Failure.TheVariants.{Unreadable, NoToken, Memory}
-use Rattle.bor_program.specs.Splitting.{before}
+use Rattle.bor_program.specs.Splitting.{before_byte}
 
 -- the first line: what stands before the first line feed or carriage return
 abbrev pub first_line : List ℕ → List ℕ
-first_line bytes = before 13 (before 10 bytes)
+first_line bytes = before_byte 13 (before_byte 10 bytes)
 
 -- as many bytes are read of the file that has it: more than the longest token and the end of its
 -- line

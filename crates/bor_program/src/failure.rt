@@ -3,7 +3,7 @@
 ghost use Rattle.std.specs.Prelude.{◌≡◌, ◌≢◌, ◌↔◌, ◌∷◌, ◌++◌, [], IsTrue, codes, map};
 ghost use Rattle.std.specs.Io.KnownBytes.{Appends};
 ghost use Rattle.std.specs.IoError.{error_kind};
-ghost use Rattle.bor_program.specs.Failures.{IsReadingOf, IsWantOfMemory, failure_line, failure_of, joined};
+ghost use Rattle.bor_program.specs.Failures.{IsReadingOf, IsWantOfMemory, failure_line, failure_of, texts_joined};
 ghost use Rattle.bor_program.specs.Streams.{AppendsPart};
 
 use crate::output::write_part;
@@ -97,10 +97,10 @@ impl<'a> Failure<'a> {
 // Writes the texts as far as they can be written, and tells whether all were.
 fn write_texts<E: Write>(errors: &mut E, texts: &[&str]) -> bool
     ensures part { AppendsPart (E.contents errors.old) (E.contents errors.new)
-        (joined (map (λ text. text.now) texts.now)) }
+        (texts_joined (map (λ text. text.now) texts.now)) }
     ensures whole { IsTrue result
         → Appends (E.contents errors.old) (E.contents errors.new)
-        (joined (map (λ text. text.now) texts.now)) }
+        (texts_joined (map (λ text. text.now) texts.now)) }
 {
     for text in texts {
         if !write_part(errors, text.as_bytes()) {

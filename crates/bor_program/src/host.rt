@@ -8,7 +8,7 @@ ghost use Rattle.bor_register.specs.Register.{Register};
 ghost use Rattle.bor_register.specs.declared.fault.StoreFault.{StoreFault};
 ghost use Rattle.bor_desk.specs.Operations.Legality.{IsLegal};
 ghost use Rattle.bor_program.specs.Connections.Serving.{IsServed, IsServedOver};
-ghost use Rattle.bor_program.specs.Connections.Streams.{IsOf, wire_of};
+ghost use Rattle.bor_program.specs.Connections.Streams.{EndedOn, wire_of};
 ghost use Rattle.bor_program.specs.declared.connections.limits.Limits.{Limits};
 ghost use Rattle.bor_wire.specs.Spelling.Spell.{Spelled};
 ghost use Rattle.bor_wire.specs.Replays.{IsReplayed};
@@ -123,7 +123,7 @@ pub trait OpenRegister {
         ensures within { serves self.old listener.now limits connections self.new result }
         ensures served { IsServed meaning self.old self.new connections result }
         ensures streams { IsServedOver meaning
-            (IsOf (wire_of L.Stream.remaining L.Stream.contents))
+            (EndedOn (wire_of L.Stream.remaining L.Stream.contents))
             (record { does = W.does; begun = watch.old; ended = watch.new })
             limits self.old self.new connections result };
 
@@ -231,7 +231,7 @@ pub trait Answering {
         ensures within { serves self.old listener.now limits connections self.new result }
         ensures served { IsServed meaning self.old self.new connections result }
         ensures streams { IsServedOver meaning
-            (IsOf (wire_of L.Stream.remaining L.Stream.contents))
+            (EndedOn (wire_of L.Stream.remaining L.Stream.contents))
             (record { does = W.does; begun = watch.old; ended = watch.new })
             limits self.old self.new connections result };
 

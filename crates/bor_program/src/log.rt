@@ -9,9 +9,9 @@
 
 ghost use Rattle.std.specs.Prelude.{◌≡◌, ◌↔◌, ◌+◌, ◌/◌, ◌%◌, ◌≤◌, pos, IfOk, IfSome, IsSome, Some, length};
 ghost use Rattle.bor_http.specs.Routes.Routes.{path_word, route_at as route_in};
-ghost use Rattle.bor_wire.specs.Spelling.Parts.{path_in};
+ghost use Rattle.bor_wire.specs.Spelling.Parts.{path_spelled};
 ghost use Rattle.bor_wire.specs.Exchanges.{bytes_out, status_out};
-ghost use Rattle.bor_program.specs.Logging.{agent_text, asked_at, asked_of, asked_path_word, asked_text, clock_text, entry_line, method_word, moment_text, numbers_text, route_method, route_path};
+ghost use Rattle.bor_program.specs.Logging.{agent_shown, asked_at, asked_of, asked_path_word, asked_text, clock_text, entry_line, method_word, moment_text, numbers_text, route_method, route_path};
 ghost use Rattle.bor_program.specs.Streams.{AppendsPart};
 
 use crate::output::write_part;
@@ -144,7 +144,7 @@ fn seconds_now<R: Clock>(rt: &R) -> u64 {
 
 // The path that bytes are.
 fn path_found(paths: &Paths, text: &[u8]) -> Option<Path>
-    ensures { result ≡ path_in text.now }
+    ensures { result ≡ path_spelled text.now }
 {
     match str::from_utf8(text) {
         Ok(text) => paths.find(text),
@@ -300,7 +300,7 @@ fn numbers_text(alloc: Global, status: u16, bytes: u64, millis: u64) -> Result<V
 
 // The agent's name, or a hyphen.
 fn agent_text<'a>(agent: Option<&'a AgentName>) -> &'a str
-    ensures { result.now ≡ agent_text agent.entry }
+    ensures { result.now ≡ agent_shown agent.entry }
 {
     match agent {
         Some(name) => name.as_str(),

@@ -3,7 +3,7 @@
 ghost use Rattle.std.specs.Prelude.{◌≡◌, ◌≤◌};
 ghost use Rattle.std.specs.Io.KnownBytes.{Keeps};
 ghost use Rattle.bor_program.specs.Failures.{failure_line};
-ghost use Rattle.bor_program.specs.Performing.{Migrates, migrated};
+ghost use Rattle.bor_program.specs.Performing.{PerformsMigration, migrated};
 ghost use Rattle.bor_program.specs.Program.{IsWrittenOrCutOff, exit_code};
 ghost use Rattle.bor_program.specs.Streams.{AppendsPart, streams_of};
 
@@ -21,7 +21,7 @@ pub fn migrate<H: Registers, O: Output, E: Write>(
     output: &mut O,
     errors: &mut E,
 ) -> Status
-    ensures done { Migrates (record { does = H.does; begun = host.old; ended = host.new })
+    ensures done { PerformsMigration (record { does = H.does; begun = host.old; ended = host.new })
         asked.entry (streams_of (O.contents output.old) (O.contents output.new)
         (E.contents errors.old) (E.contents errors.new) (exit_code result)) }
     ensures flushed { exit_code result ≤ 1 → O.is_flushed output.new }

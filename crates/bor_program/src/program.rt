@@ -7,7 +7,7 @@ ghost use Rattle.bor_words.specs.Help.{help_for};
 ghost use Rattle.bor_words.specs.Unread.{kind_of_answer};
 ghost use Rattle.bor_words.specs.Words.{entered_by};
 ghost use Rattle.bor_words.specs.declared.command.Command.{Command as Asked};
-ghost use Rattle.bor_program.specs.Connections.Streams.{IsOf, wire_of};
+ghost use Rattle.bor_program.specs.Connections.Streams.{EndedOn, wire_of};
 ghost use Rattle.bor_program.specs.Failures.{IsMetBy, IsMetOn, IsMetPrinting, IsFailureWritten, IsWantOfMemory};
 ghost use Rattle.bor_program.specs.Hosting.{IsHosted, hosting_of};
 ghost use Rattle.bor_program.specs.Inputs.{IsReadOf};
@@ -67,7 +67,7 @@ where
           reads = IsReadOf (R.opens rt.now) R.File.remaining;
           hosts = IsHosted H.Register.meaning
               (hosting_of H.listens H.waits H.Waiter.does H.Register.serves
-              (IsOf (wire_of H.Listener.Stream.remaining H.Listener.Stream.contents)));
+              (EndedOn (wire_of H.Listener.Stream.remaining H.Listener.Stream.contents)));
           meaning = H.Register.meaning;
           tells = H.Register.tells;
         })
@@ -163,7 +163,7 @@ where
           reads = IsReadOf (R.opens rt.now) R.File.remaining;
           hosts = IsHosted H.Register.meaning
               (hosting_of H.listens H.waits H.Waiter.does H.Register.serves
-              (IsOf (wire_of H.Listener.Stream.remaining H.Listener.Stream.contents)));
+              (EndedOn (wire_of H.Listener.Stream.remaining H.Listener.Stream.contents)));
           meaning = H.Register.meaning;
           tells = H.Register.tells;
         })

@@ -6,7 +6,7 @@ ghost use Rattle.bor_desk.specs.Operations.Outcomes.{Accounts, store_fault};
 ghost use Rattle.bor_program.specs.Failures.{IsMetOnKeep};
 ghost use Rattle.bor_program.specs.Performing.{Reports};
 ghost use Rattle.bor_program.specs.Program.{exit_code};
-ghost use Rattle.bor_program.specs.Reporting.{EndsTelling, IsReportOf, IsToldOf, entity_of};
+ghost use Rattle.bor_program.specs.Reporting.{EndsTelling, IsReportOf, IsToldOf, entity_asked};
 ghost use Rattle.bor_program.specs.Streams.{streams_of};
 
 use crate::check::text_status;
@@ -100,7 +100,7 @@ pub fn report_in<K: Keep>(
 
 // The entity that is asked for.
 fn entity_of(alloc: Global, asked: &Report<'_>) -> Result<Node, AllocError>
-    ensures { IfOk result (λ entity. entity ≡ entity_of asked.now) }
+    ensures { IfOk result (λ entity. entity ≡ entity_asked asked.now) }
 {
     Ok(Node {
         agent: asked.agent.copy(alloc)?,

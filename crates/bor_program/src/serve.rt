@@ -3,7 +3,7 @@
 ghost use Rattle.std.specs.Prelude.{◌≡◌, ◌≤◌, ◌⊎◌, IfErr, IfOk, OnErr, OnOk};
 ghost use Rattle.std.specs.Io.KnownBytes.{Appends};
 ghost use Rattle.bor_program.specs.Connections.Serving.{IsServed};
-ghost use Rattle.bor_program.specs.Connections.Streams.{IsOf, wire_of};
+ghost use Rattle.bor_program.specs.Connections.Streams.{EndedOn, wire_of};
 ghost use Rattle.bor_program.specs.Failures.{IsMetListening};
 ghost use Rattle.bor_program.specs.Hosting.{IsHosted, hosting_of};
 ghost use Rattle.bor_program.specs.Performing.{Serves, listening};
@@ -35,7 +35,7 @@ where
     <H::Listener as OpenListener>::Stream: Read + Write + OpenStream,
     ensures done { Serves
         (IsHosted H.Register.meaning (hosting_of H.listens H.waits H.Waiter.does H.Register.serves
-        (IsOf (wire_of H.Listener.Stream.remaining H.Listener.Stream.contents))))
+        (EndedOn (wire_of H.Listener.Stream.remaining H.Listener.Stream.contents))))
         H.Register.meaning (record { does = H.does; begun = host.old; ended = host.new })
         asked.entry (streams_of (O.contents output.old) (O.contents output.new)
         (E.contents errors.old) (E.contents errors.new) (exit_code result)) }
@@ -67,7 +67,7 @@ where
     <H::Listener as OpenListener>::Stream: Read + Write + OpenStream,
     ensures hosted { IfOk result (λ status. IsHosted H.Register.meaning
         (hosting_of H.listens H.waits H.Waiter.does H.Register.serves
-        (IsOf (wire_of H.Listener.Stream.remaining H.Listener.Stream.contents)))
+        (EndedOn (wire_of H.Listener.Stream.remaining H.Listener.Stream.contents)))
         asked.entry register.old register.new (exit_code status)) }
     ensures ok { IfOk result (λ status.
         IsServed H.Register.meaning register.old register.new asked.entry.connections

@@ -23,7 +23,7 @@ use Rattle.bor_store_sql.specs.declared.rows.places.At.{At}
 use Rattle.bor_store_sql.specs.declared.rows.typed.Placed.{Placed}
 use Rattle.bor_store_sql.specs.declared.rows.typed.IdentifierRow.{IdentifierRow}
 use Rattle.bor_store_sql.specs.declared.rows.typed.StatementRow.{StatementRow}
-use Rattle.bor_store_sql.specs.Rows.Placed.{bare, placed, identifier_rows, identifiers_from, identifiers_of}
+use Rattle.bor_store_sql.specs.Rows.Placed.{bare, placed, identifier_rows, identifiers_from, identifiers_listed}
 use Rattle.bor_store_sql.specs.Rows.Seen.{row_placed}
 use Rattle.bor_store_sql.specs.Rows.Stored.{IsStored}
 use Rattle.bor_store_sql.proofs.OnRows.Apart.{all_apart}
@@ -69,9 +69,9 @@ pub identified_cover : (r : Register) → IsStored r → (scheme id : List ℕ) 
     → ((n : Node) → Contains nodes n ↔ Contains made n) → CoverRecords (with_identifier scheme id (placed r.members)) nodes
 identified_cover r stored scheme id rows made nodes is made_is same p h =
     let fits : Identifier → Bool = λ i. is_same i.scheme scheme && is_same i.id id in
-    let own = Contains-from_filter (λ (q : Placed). list_any fits (identifiers_of q.statement.details)) (placed r.members) p h in
-    let i = same_any fits (identifiers_of p.statement.details) own.1 in
-    let j = identifier_there p.at 1 (identifiers_of p.statement.details) i.0 i.1 in
+    let own = Contains-from_filter (λ (q : Placed). list_any fits (identifiers_listed q.statement.details)) (placed r.members) p h in
+    let i = same_any fits (identifiers_listed p.statement.details) own.1 in
+    let j = identifier_there p.at 1 (identifiers_listed p.statement.details) i.0 i.1 in
     let found = Contains-filter (λ (row : IdentifierRow). fits row.identifier) (flat_map identifier_rows (placed r.members)) j.0 (flat_there identifier_rows (placed r.members) p j.0 own.0 j.1) (ap fits j.2 ∙ i.2) in
     let alone : IsAlone (placed r.members) p = All-contains (IsAlone (placed r.members)) (placed r.members) p (each_alone (placed r.members) (all_apart r.members stored.ordered stored.numbered)) own.0 in
     let stands_there : record_standing r.members (j.0).at ≡ Some (placed_record p) = ap (record_standing r.members) j.3 ∙ ap (λ (ps : List Placed). option_map placed_record (slice_get ps 0)) alone in
@@ -81,10 +81,10 @@ identified_cover r stored scheme id rows made nodes is made_is same p h =
 -- ---- what has a sign is found by it
 
 -- the node of a statement, and its identifiers
-node_parts : (p : Placed) (x : OpenNode) → node_in (row_placed p) ≡ Some x → (placed_record p ≡ x.node) × (identifiers_of p.statement.details ≡ x.identifiers)
+node_parts : (p : Placed) (x : OpenNode) → node_in (row_placed p) ≡ Some x → (placed_record p ≡ x.node) × (identifiers_listed p.statement.details ≡ x.identifiers)
 node_parts p x e = go p.statement.details e
   where
-    go : (d : Details) → node_in (row_placed (record p { statement = record p.statement { details = d } })) ≡ Some x → (placed_record p ≡ x.node) × (identifiers_of d ≡ x.identifiers)
+    go : (d : Details) → node_in (row_placed (record p { statement = record p.statement { details = d } })) ≡ Some x → (placed_record p ≡ x.node) × (identifiers_listed d ≡ x.identifiers)
     go (details.Entity kind name identifiers) h = let q = same_Some _ x h in (ap (λ (y : OpenNode). y.node) q, ap (λ (y : OpenNode). y.identifiers) q)
     go (details.Person kind name) h = let q = same_Some _ x h in (ap (λ (y : OpenNode). y.node) q, ap (λ (y : OpenNode). y.identifiers) q)
     go (details.Relationship subject party interests) h = let no : None ≡ Some x = h in absurd cc
@@ -103,7 +103,7 @@ module _ (view : View) (r : Register) (stored : IsStored r) (k : Sign) (row : Ro
   stand = stands view.viewer view.today r stored row at
 
   module _ (s : Stands r row) where
-    parts : (placed_record s.at ≡ x.node) × (identifiers_of (s.at).statement.details ≡ x.identifiers)
+    parts : (placed_record s.at ≡ x.node) × (identifiers_listed (s.at).statement.details ≡ x.identifiers)
     parts = node_parts s.at x (ap node_in (sym s.is) ∙ is)
 
     by_record_there : by_record x.node ≡ k → Contains (with_sign k r) s.at
@@ -120,8 +120,8 @@ module _ (view : View) (r : Register) (stored : IsStored r) (k : Sign) (row : Ro
         let all : Contains (placed r.members) s.at = All-contains (Contains (placed r.members)) (placed_of row.agent r) s.at (own_placed (Contains (placed r.members)) row.agent r.members (All-contains_itself (placed r.members))) (placed_there r row s) in
         let fit : fits i ≡ true = ap₂ (λ a b. a && b) (is_same-of i.scheme k.group (group_of (by_identifier i) k e)) (is_same-of i.id k.name (name_of (by_identifier i) k e)) in
         subst (λ (b : Bool). Contains (if b then in_record k.name (placed_of k.group r) else with_identifier k.group k.name (placed r.members)) s.at) (kind_of (by_identifier i) k e)
-        (Contains-filter (λ (p : Placed). list_any fits (identifiers_of p.statement.details)) (placed r.members) s.at all
-        (any_is fits (identifiers_of (s.at).statement.details) i (subst (λ is. Contains is i) (sym parts.1) h) fit))
+        (Contains-filter (λ (p : Placed). list_any fits (identifiers_listed p.statement.details)) (placed r.members) s.at all
+        (any_is fits (identifiers_listed (s.at).statement.details) i (subst (λ is. Contains is i) (sym parts.1) h) fit))
 
   has_sign : Contains (signs x) k → Contains (with_sign k r) stand.at
   has_sign has = elim (cases (by_record x.node) (map by_identifier x.identifiers) k has) [

@@ -8,7 +8,7 @@ use Rattle.bor_register.specs.declared.member.Member.{Member}
 use Rattle.bor_register.specs.Register.{Register}
 use Rattle.bor_store_sql.specs.declared.rows.places.At.{At}
 use Rattle.bor_store_sql.specs.declared.rows.typed.Placed.{Placed}
-use Rattle.bor_store_sql.specs.Rows.Placed.{identifiers_of, placed}
+use Rattle.bor_store_sql.specs.Rows.Placed.{identifiers_listed, placed}
 use Rattle.bor_store_sql.specs.Selected.{in_record, placed_of, standing_at}
 use Rattle.bor_store_keys.specs.Recorded.{placed_record}
 
@@ -20,7 +20,7 @@ record_standing ms at = option_map placed_record (slice_get (standing_at at ms) 
 abbrev pub with_identifier : List ℕ → List ℕ → List Placed → List Placed
 with_identifier scheme id ps =
     filter (λ p. list_any (λ i. is_same i.scheme scheme && is_same i.id id)
-    (identifiers_of p.statement.details)) ps
+    (identifiers_listed p.statement.details)) ps
 
 -- the live statements that have a sign: those of an agent's record, or those with an identifier
 abbrev pub with_sign : Sign → Register → List Placed

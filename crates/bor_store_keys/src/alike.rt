@@ -9,7 +9,7 @@ ghost use Rattle.bor_records.specs.Links.Shown.{is_like};
 ghost use Rattle.bor_records.specs.Links.Signs.{by_identifier, sign_cmp, signs};
 ghost use Rattle.bor_chains.specs.Candidates.{IsAlike, IsAlikeIn};
 ghost use Rattle.bor_register.specs.Seen.{seen_at};
-ghost use Rattle.bor_store_reads.specs.Answering.{Reads};
+ghost use Rattle.bor_store_reads.specs.Answering.{ReadsIn};
 ghost use Rattle.bor_chains.specs.Alike.{Expands, Follows};
 ghost use Rattle.bor_store_keys.specs.Viewed.{rows_seen, seen};
 
@@ -35,7 +35,7 @@ fn is_alike<S: Alter + Drop>(
     one: &OpenNode,
     candidate: &Node,
 ) -> Result<bool, ReadError>
-    ensures { Reads S.Store lookup.old lookup.new result (λ r alike.
+    ensures { ReadsIn S.Store lookup.old lookup.new result (λ r alike.
         alike ≡ is_like one.now (node_at view.now.day candidate.now (rows_seen view.now r))) }
 {
     match node_in(lookup, alloc, view, candidate)? {
@@ -53,7 +53,7 @@ fn add_if_alike<S: Alter + Drop>(
     one: &OpenNode,
     candidate: &Node,
 ) -> Result<(), ReadError>
-    ensures { Reads S.Store lookup.old lookup.new result (λ r _.
+    ensures { ReadsIn S.Store lookup.old lookup.new result (λ r _.
         Grown
         (IsAlike view.now.day (rows_seen view.now r) one.now candidate.now) class.old class.new) }
 {
@@ -76,7 +76,7 @@ fn add_alike<S: Alter + Drop>(
     one: &OpenNode,
     candidates: &[Node],
 ) -> Result<(), ReadError>
-    ensures { Reads S.Store lookup.old lookup.new result (λ r _.
+    ensures { ReadsIn S.Store lookup.old lookup.new result (λ r _.
         Grown
         (IsAlikeIn view.now.day
         (rows_seen view.now r) one.now candidates.now) class.old class.new) }
@@ -97,7 +97,7 @@ fn add_signed<S: Alter + Drop>(
     one: &OpenNode,
     sign: Sign,
 ) -> Result<(), ReadError>
-    ensures { Reads S.Store lookup.old lookup.new result (λ r _.
+    ensures { ReadsIn S.Store lookup.old lookup.new result (λ r _.
         Expands view.now.day (rows_seen view.now r) one.now (sign ∷ []) class.old class.new
         (λ k. contains sign_cmp looked.old k) (λ k. contains sign_cmp looked.new k)) }
 {
@@ -120,7 +120,7 @@ fn add_identified<S: Alter + Drop>(
     one: &OpenNode,
     identifiers: &[Identifier],
 ) -> Result<(), ReadError>
-    ensures { Reads S.Store lookup.old lookup.new result (λ r _.
+    ensures { ReadsIn S.Store lookup.old lookup.new result (λ r _.
         Expands view.now.day (rows_seen view.now r) one.now
         (map by_identifier identifiers.now) class.old class.new
         (λ k. contains sign_cmp looked.old k) (λ k. contains sign_cmp looked.new k)) }
@@ -141,7 +141,7 @@ fn add_signs<S: Alter + Drop>(
     looked: &mut BTreeSet<Sign>,
     one: &OpenNode,
 ) -> Result<(), ReadError>
-    ensures { Reads S.Store lookup.old lookup.new result (λ r _.
+    ensures { ReadsIn S.Store lookup.old lookup.new result (λ r _.
         Expands view.now.day (rows_seen view.now r) one.now (signs one.now) class.old class.new
         (λ k. contains sign_cmp looked.old k) (λ k. contains sign_cmp looked.new k)) }
 {
@@ -167,7 +167,7 @@ fn add_aliases<S: Alter + Drop>(
     looked: &mut BTreeSet<Sign>,
     node: &Node,
 ) -> Result<(), ReadError>
-    ensures { Reads S.Store lookup.old lookup.new result (λ r _.
+    ensures { ReadsIn S.Store lookup.old lookup.new result (λ r _.
         Follows (seen view.now r) node.now class.old class.new (λ k. contains sign_cmp looked.old k)
         (λ k. contains sign_cmp looked.new k)) }
 {
@@ -187,7 +187,7 @@ fn aliases_in<S: Alter + Drop>(
     view: &View,
     node: &Node,
 ) -> Result<Vec<Node>, ReadError>
-    ensures { Reads S.Store lookup.old lookup.new result (λ r nodes.
+    ensures { ReadsIn S.Store lookup.old lookup.new result (λ r nodes.
         AreAliases (seen view.now r) node.now nodes.items) }
 {
     let mut class = Class::new(alloc);
@@ -205,7 +205,7 @@ pub fn read_aliases<S: Alter + Drop>(
     day: Day,
     node: &Node,
 ) -> Result<Vec<Node>, ReadError>
-    ensures { Reads S.Store lookup.old lookup.new result (λ r nodes.
+    ensures { ReadsIn S.Store lookup.old lookup.new result (λ r nodes.
         AreAliases (seen_at viewer.now day r) node.now nodes.items) }
 {
     let view = view_of(lookup, alloc, viewer, day)?;
@@ -219,7 +219,7 @@ fn same_in<S: Alter + Drop>(
     view: &View,
     node: &Node,
 ) -> Result<Vec<Node>, ReadError>
-    ensures { Reads S.Store lookup.old lookup.new result (λ r nodes.
+    ensures { ReadsIn S.Store lookup.old lookup.new result (λ r nodes.
         AreSame (seen view.now r) node.now nodes.items) }
 {
     let mut class = Class::new(alloc);
@@ -241,7 +241,7 @@ fn same_told<S: Alter + Drop>(
     view: &View,
     node: &Node,
 ) -> Result<Vec<Node>, ReadError>
-    ensures { Reads S.Store lookup.old lookup.new result (λ r nodes.
+    ensures { ReadsIn S.Store lookup.old lookup.new result (λ r nodes.
         AreSame (seen view.now r) node.now nodes.items) }
 {
     lookup.list_where_many(alloc, view)?;
@@ -261,7 +261,7 @@ pub fn read_same<S: Alter + Drop>(
     day: Day,
     node: &Node,
 ) -> Result<Vec<Node>, ReadError>
-    ensures { Reads S.Store lookup.old lookup.new result (λ r nodes.
+    ensures { ReadsIn S.Store lookup.old lookup.new result (λ r nodes.
         AreSame (seen_at viewer.now day r) node.now nodes.items) }
 {
     let view = view_of(lookup, alloc, viewer, day)?;

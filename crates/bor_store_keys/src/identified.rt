@@ -7,7 +7,7 @@ ghost use Rattle.bor_records.specs.Links.Growth.{Grown};
 ghost use Rattle.bor_records.specs.Links.Shown.{is_identified};
 ghost use Rattle.bor_chains.specs.Candidates.{IsFit, IsFitIn};
 ghost use Rattle.bor_register.specs.Seen.{seen_at};
-ghost use Rattle.bor_store_reads.specs.Answering.{Reads};
+ghost use Rattle.bor_store_reads.specs.Answering.{ReadsIn};
 ghost use Rattle.bor_store_keys.specs.Viewed.{rows_seen, seen};
 
 use crate::lookup::Lookup;
@@ -30,7 +30,7 @@ fn is_identified<S: Alter + Drop>(
     identifier: &Identifier,
     candidate: &Node,
 ) -> Result<bool, ReadError>
-    ensures { Reads S.Store lookup.old lookup.new result (λ r is.
+    ensures { ReadsIn S.Store lookup.old lookup.new result (λ r is.
         is ≡ is_identified identifier.now
         (node_at view.now.day candidate.now (rows_seen view.now r))) }
 {
@@ -49,7 +49,7 @@ fn add_if_identified<S: Alter + Drop>(
     identifier: &Identifier,
     candidate: &Node,
 ) -> Result<(), ReadError>
-    ensures { Reads S.Store lookup.old lookup.new result (λ r _.
+    ensures { ReadsIn S.Store lookup.old lookup.new result (λ r _.
         Grown (IsFit view.now.day (rows_seen view.now r) (is_identified identifier.now)
         candidate.now) found.old found.new) }
 {
@@ -72,7 +72,7 @@ fn add_identified<S: Alter + Drop>(
     identifier: &Identifier,
     candidates: &[Node],
 ) -> Result<(), ReadError>
-    ensures { Reads S.Store lookup.old lookup.new result (λ r _.
+    ensures { ReadsIn S.Store lookup.old lookup.new result (λ r _.
         Grown (IsFitIn view.now.day (rows_seen view.now r) (is_identified identifier.now)
         candidates.now) found.old found.new) }
 {
@@ -89,7 +89,7 @@ fn identified_in<S: Alter + Drop>(
     view: &View,
     identifier: &Identifier,
 ) -> Result<Vec<Node>, ReadError>
-    ensures { Reads S.Store lookup.old lookup.new result (λ r nodes.
+    ensures { ReadsIn S.Store lookup.old lookup.new result (λ r nodes.
         AreIdentified (seen view.now r) identifier.now nodes.items) }
 {
     let sign = Sign::of_identifier(alloc, identifier)?;
@@ -108,7 +108,7 @@ pub fn read_identified<S: Alter + Drop>(
     day: Day,
     identifier: &Identifier,
 ) -> Result<Vec<Node>, ReadError>
-    ensures { Reads S.Store lookup.old lookup.new result (λ r nodes.
+    ensures { ReadsIn S.Store lookup.old lookup.new result (λ r nodes.
         AreIdentified (seen_at viewer.now day r) identifier.now nodes.items) }
 {
     let view = view_of(lookup, alloc, viewer, day)?;

@@ -4,7 +4,7 @@ ghost use Rattle.std.specs.Prelude.{◌≡◌, false, filter, None, option_map};
 ghost use Rattle.std.specs.List.{last_or};
 ghost use Rattle.bor_records.specs.Links.Series.{open_at};
 ghost use Rattle.bor_register.specs.Register.{filings_of};
-ghost use Rattle.bor_store_reads.specs.Answering.{Reads};
+ghost use Rattle.bor_store_reads.specs.Answering.{ReadsIn};
 ghost use Rattle.bor_store_keys.specs.Latest.{bare_row, is_row_seen, stored_unless_closed};
 ghost use Rattle.bor_store_keys.specs.Viewed.{rows_seen};
 
@@ -27,7 +27,7 @@ fn is_told<S: Alter + Drop>(
     agent: &AgentName,
     row: &StatementRow,
 ) -> Result<bool, ReadError>
-    ensures { Reads S.Store lookup.old lookup.new result (λ r told.
+    ensures { ReadsIn S.Store lookup.old lookup.new result (λ r told.
         told ≡ is_row_seen view.now agent.now (filings_of agent.now r.members) row.now) }
 {
     if view.day < row.day {
@@ -44,7 +44,7 @@ fn last_told<S: Alter + Drop>(
     agent: &AgentName,
     mut rows: Vec<StatementRow>,
 ) -> Result<Option<StatementRow>, ReadError>
-    ensures { Reads S.Store lookup.old lookup.new result (λ r last.
+    ensures { ReadsIn S.Store lookup.old lookup.new result (λ r last.
         last ≡ last_or None
         (filter (is_row_seen view.now agent.now (filings_of agent.now r.members)) rows.items)) }
 {
@@ -73,7 +73,7 @@ pub(crate) fn open_statement<S: Alter + Drop>(
     view: &View,
     node: &Node,
 ) -> Result<Option<StatementRow>, ReadError>
-    ensures { Reads S.Store lookup.old lookup.new result (λ r row.
+    ensures { ReadsIn S.Store lookup.old lookup.new result (λ r row.
         row ≡ option_map bare_row (open_at view.now.day node.now (rows_seen view.now r))) }
 {
     let rows = lookup.series(alloc, node)?;

@@ -7,7 +7,7 @@ ghost use Rattle.bor_records.specs.Links.Rows.{is_entity_info, link_between, nod
 ghost use Rattle.bor_records.specs.Links.Shown.{info_of};
 ghost use Rattle.bor_chains.specs.Candidates.{link_at, link_into};
 ghost use Rattle.bor_register.specs.Seen.{seen_at};
-ghost use Rattle.bor_store_reads.specs.Answering.{Reads};
+ghost use Rattle.bor_store_reads.specs.Answering.{ReadsIn};
 ghost use Rattle.bor_store_keys.specs.Viewed.{rows_seen, seen};
 
 use crate::list::push_some;
@@ -38,7 +38,7 @@ fn link_between<S: Alter + Drop>(
     subject: Node,
     interests: &[Interest],
 ) -> Result<Option<Link>, ReadError>
-    ensures { Reads S.Store lookup.old lookup.new result (λ r link.
+    ensures { ReadsIn S.Store lookup.old lookup.new result (λ r link.
         is_entity_info (info_of (seen view.now r) node.now) ≡ true → link ≡ only_into node.now
         (link_between view.now.day
         (nodes_of view.now.day (rows_seen view.now r)) rec party subject interests.now)) }
@@ -66,7 +66,7 @@ fn link_into<S: Alter + Drop>(
     node: &Node,
     row: &Row,
 ) -> Result<Option<Link>, ReadError>
-    ensures { Reads S.Store lookup.old lookup.new result (λ r link.
+    ensures { ReadsIn S.Store lookup.old lookup.new result (λ r link.
         is_entity_info (info_of (seen view.now r) node.now) ≡ true → link ≡ link_into view.now.day
         (rows_seen view.now r) node.now row.now) }
 {
@@ -102,7 +102,7 @@ fn link_at<S: Alter + Drop>(
     node: &Node,
     rec: &Node,
 ) -> Result<Option<Link>, ReadError>
-    ensures { Reads S.Store lookup.old lookup.new result (λ r link.
+    ensures { ReadsIn S.Store lookup.old lookup.new result (λ r link.
         is_entity_info (info_of (seen view.now r) node.now) ≡ true → link ≡ link_at view.now.day
         (rows_seen view.now r) node.now rec.now) }
 {
@@ -120,7 +120,7 @@ fn links_of<S: Alter + Drop>(
     node: &Node,
     records: &[Node],
 ) -> Result<Vec<Link>, ReadError>
-    ensures { Reads S.Store lookup.old lookup.new result (λ r links.
+    ensures { ReadsIn S.Store lookup.old lookup.new result (λ r links.
         is_entity_info (info_of (seen view.now r) node.now) ≡ true → links.items ≡ filter_map
         (link_at view.now.day (rows_seen view.now r) node.now) records.now) }
 {
@@ -139,7 +139,7 @@ fn links_into<S: Alter + Drop>(
     view: &View,
     node: &Node,
 ) -> Result<Vec<Link>, ReadError>
-    ensures { Reads S.Store lookup.old lookup.new result (λ r links.
+    ensures { ReadsIn S.Store lookup.old lookup.new result (λ r links.
         AreLinksInto (seen view.now r) node.now links.items) }
 {
     if !is_entity(lookup, alloc, view, node)? {
@@ -156,7 +156,7 @@ fn links_told<S: Alter + Drop>(
     view: &View,
     node: &Node,
 ) -> Result<Vec<Link>, ReadError>
-    ensures { Reads S.Store lookup.old lookup.new result (λ r links.
+    ensures { ReadsIn S.Store lookup.old lookup.new result (λ r links.
         AreLinksInto (seen view.now r) node.now links.items) }
 {
     lookup.list_where_many(alloc, view)?;
@@ -175,7 +175,7 @@ pub fn read_links_into<S: Alter + Drop>(
     day: Day,
     node: &Node,
 ) -> Result<Vec<Link>, ReadError>
-    ensures { Reads S.Store lookup.old lookup.new result (λ r links.
+    ensures { ReadsIn S.Store lookup.old lookup.new result (λ r links.
         AreLinksInto (seen_at viewer.now day r) node.now links.items) }
 {
     let view = view_of(lookup, alloc, viewer, day)?;

@@ -13,7 +13,7 @@ ghost use Rattle.bor_register.specs.Rows.{visible};
 ghost use Rattle.bor_store_sql.specs.Rows.Placed.{bare, placed};
 ghost use Rattle.bor_store_sql.specs.Selected.{identified_by, identifiers_at, in_record, in_series, interests_at, placed_of, standing_at, with_subject};
 ghost use Rattle.bor_store_sql.specs.Shown.{IsUp};
-ghost use Rattle.bor_store_reads.specs.Answering.{Reads};
+ghost use Rattle.bor_store_reads.specs.Answering.{ReadsIn};
 ghost use Rattle.bor_store_reads.specs.Asking.{is_number_seen};
 ghost use Rattle.bor_store_keys.specs.Finding.{Holds};
 ghost use Rattle.bor_store_keys.specs.Signed.{record_standing};
@@ -97,7 +97,7 @@ impl<S: Alter + Drop> Lookup<S> {
 impl<S: Alter + Drop> Lookup<S> {
     /// The register's day, as it is read.
     pub(crate) fn read_today(&mut self, alloc: Global) -> Result<Day, ReadError>
-        ensures { Reads S.Store self.old self.new result (λ r day. day ≡ r.day) }
+        ensures { ReadsIn S.Store self.old self.new result (λ r day. day ≡ r.day) }
     {
         read_day(&mut self.conn, alloc)
     }
@@ -110,7 +110,7 @@ impl<S: Alter + Drop> Lookup<S> {
         agent: &AgentName,
         number: u32,
     ) -> Result<bool, ReadError>
-        ensures { Reads S.Store self.old self.new result (λ r seen.
+        ensures { ReadsIn S.Store self.old self.new result (λ r seen.
             seen ≡ is_number_seen view.now.viewer view.now.today agent.now
             (filings_of agent.now r.members) number) }
     {
@@ -130,7 +130,7 @@ impl<S: Alter + Drop> Lookup<S> {
         alloc: Global,
         node: &Node,
     ) -> Result<Vec<StatementRow>, ReadError>
-        ensures { Reads S.Store self.old self.new result (λ r rows.
+        ensures { ReadsIn S.Store self.old self.new result (λ r rows.
             rows.items ≡ map bare
             (in_series node.now.declaration node.now.rec (placed_of node.now.agent r))) }
     {
@@ -149,7 +149,7 @@ impl<S: Alter + Drop> Lookup<S> {
         alloc: Global,
         node: &Node,
     ) -> Result<Vec<StatementRow>, ReadError>
-        ensures { Reads S.Store self.old self.new result (λ r rows.
+        ensures { ReadsIn S.Store self.old self.new result (λ r rows.
             rows.items ≡ map bare
             (with_subject node.now.declaration node.now.rec (placed_of node.now.agent r))) }
     {
@@ -170,7 +170,7 @@ impl<S: Alter + Drop> Lookup<S> {
         agent: &str,
         rec: &str,
     ) -> Result<Vec<StatementRow>, ReadError>
-        ensures { Reads S.Store self.old self.new result (λ r rows.
+        ensures { ReadsIn S.Store self.old self.new result (λ r rows.
             rows.items ≡ map bare (in_record rec.now (placed_of agent.now r))) }
     {
         read_record(&mut self.conn, alloc, agent, rec)
@@ -183,7 +183,7 @@ impl<S: Alter + Drop> Lookup<S> {
         scheme: &str,
         id: &str,
     ) -> Result<Vec<IdentifierRow>, ReadError>
-        ensures { Reads S.Store self.old self.new result (λ r rows.
+        ensures { ReadsIn S.Store self.old self.new result (λ r rows.
             rows.items ≡ identified_by scheme.now id.now r.members) }
     {
         read_identified(&mut self.conn, alloc, scheme, id)
@@ -195,7 +195,7 @@ impl<S: Alter + Drop> Lookup<S> {
         alloc: Global,
         at: &At,
     ) -> Result<Option<StatementRow>, ReadError>
-        ensures { Reads S.Store self.old self.new result (λ r row.
+        ensures { ReadsIn S.Store self.old self.new result (λ r row.
             row ≡ option_map bare (slice_get (standing_at at.now r.members) 0)) }
     {
         read_place(&mut self.conn, alloc, at)
@@ -207,7 +207,7 @@ impl<S: Alter + Drop> Lookup<S> {
         alloc: Global,
         at: &At,
     ) -> Result<Vec<InterestRow>, ReadError>
-        ensures { Reads S.Store self.old self.new result (λ r rows.
+        ensures { ReadsIn S.Store self.old self.new result (λ r rows.
             rows.items ≡ interests_at at.now r.members) }
     {
         interests_of_one(&mut self.conn, alloc, at)
@@ -219,7 +219,7 @@ impl<S: Alter + Drop> Lookup<S> {
         alloc: Global,
         at: &At,
     ) -> Result<Vec<IdentifierRow>, ReadError>
-        ensures { Reads S.Store self.old self.new result (λ r rows.
+        ensures { ReadsIn S.Store self.old self.new result (λ r rows.
             rows.items ≡ identifiers_at at.now r.members) }
     {
         identifiers_of_one(&mut self.conn, alloc, at)
@@ -227,7 +227,7 @@ impl<S: Alter + Drop> Lookup<S> {
 
     // Whether there are more live statements than so many.
     fn has_more(&mut self, most: u32) -> Result<bool, ReadError>
-        ensures reads { Reads S.Store self.old self.new result (λ r more.
+        ensures reads { ReadsIn S.Store self.old self.new result (λ r more.
             more ≡ not (nat_le (length (placed r.members)) most)) }
         ensures up { IfOk result (λ _. IsUp (state S.Store self.new)) }
     {
@@ -236,7 +236,7 @@ impl<S: Alter + Drop> Lookup<S> {
 
     // All rows that the viewer sees on the register's day.
     fn visible(&mut self, alloc: Global, viewer: &AgentName) -> Result<Vec<Row>, ReadError>
-        ensures { Reads S.Store self.old self.new result (λ r rows.
+        ensures { ReadsIn S.Store self.old self.new result (λ r rows.
             rows.items ≡ visible viewer.now r.day r.members) }
     {
         read_visible(&mut self.conn, alloc, viewer)
@@ -407,7 +407,7 @@ impl<S: Alter + Drop> Lookup<S> {
     // statements.
     fn list(&mut self, alloc: Global, view: &View, most: u32) -> Result<(), ReadError>
         requires { Holds (state S.Store self.old) (λ r. view.now.today ≡ r.day) }
-        ensures { Reads S.Store self.old self.new result (λ r _. Unit {0}) }
+        ensures { ReadsIn S.Store self.old self.new result (λ r _. Unit {0}) }
     {
         if self.has_more(most)? {
             return Ok(());
@@ -421,7 +421,7 @@ impl<S: Alter + Drop> Lookup<S> {
     /// all that the viewer sees. Where memory is wanting for it, records are read one by one as
     /// before; the store is asked once more then, since it may have shut.
     pub(crate) fn list_where_many(&mut self, alloc: Global, view: &View) -> Result<(), ReadError>
-        ensures { Reads S.Store self.old self.new result (λ r _. Unit {0}) }
+        ensures { ReadsIn S.Store self.old self.new result (λ r _. Unit {0}) }
     {
         let Some(most) = self.most(view) else {
             return Ok(());

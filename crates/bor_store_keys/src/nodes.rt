@@ -7,7 +7,7 @@ ghost use Rattle.bor_records.specs.Links.Rows.{is_entity_info, is_some_info, nod
 ghost use Rattle.bor_records.specs.Links.Series.{open_at};
 ghost use Rattle.bor_records.specs.Links.Shown.{info_of};
 ghost use Rattle.bor_register.specs.Seen.{seen_at};
-ghost use Rattle.bor_store_reads.specs.Answering.{Reads};
+ghost use Rattle.bor_store_reads.specs.Answering.{ReadsIn};
 ghost use Rattle.bor_store_keys.specs.Finding.{Holds};
 ghost use Rattle.bor_store_keys.specs.Viewed.{rows_seen, seen};
 
@@ -59,7 +59,7 @@ fn node_read<S: Alter + Drop>(
     view: &View,
     node: &Node,
 ) -> Result<Option<OpenNode>, ReadError>
-    ensures { Reads S.Store lookup.old lookup.new result (λ r one.
+    ensures { ReadsIn S.Store lookup.old lookup.new result (λ r one.
         one ≡ node_at view.now.day node.now (rows_seen view.now r)) }
 {
     let row = open_row(lookup, alloc, view, node)?;
@@ -76,7 +76,7 @@ pub(crate) fn node_in<S: Alter + Drop>(
     view: &View,
     node: &Node,
 ) -> Result<Option<OpenNode>, ReadError>
-    ensures { Reads S.Store lookup.old lookup.new result (λ r one.
+    ensures { ReadsIn S.Store lookup.old lookup.new result (λ r one.
         one ≡ node_at view.now.day node.now (rows_seen view.now r)) }
 {
     match lookup.node(alloc, view, node)? {
@@ -92,7 +92,7 @@ fn info_read<S: Alter + Drop>(
     view: &View,
     node: &Node,
 ) -> Result<Option<NodeInfo>, ReadError>
-    ensures { Reads S.Store lookup.old lookup.new result (λ r info.
+    ensures { ReadsIn S.Store lookup.old lookup.new result (λ r info.
         info ≡ info_of (seen view.now r) node.now) }
 {
     match node_read(lookup, alloc, view, node)? {
@@ -108,7 +108,7 @@ fn info_in<S: Alter + Drop>(
     view: &View,
     node: &Node,
 ) -> Result<Option<NodeInfo>, ReadError>
-    ensures { Reads S.Store lookup.old lookup.new result (λ r info.
+    ensures { ReadsIn S.Store lookup.old lookup.new result (λ r info.
         info ≡ info_of (seen view.now r) node.now) }
 {
     match lookup.info(alloc, view, node)? {
@@ -124,7 +124,7 @@ pub(crate) fn is_entity<S: Alter + Drop>(
     view: &View,
     node: &Node,
 ) -> Result<bool, ReadError>
-    ensures { Reads S.Store lookup.old lookup.new result (λ r is.
+    ensures { ReadsIn S.Store lookup.old lookup.new result (λ r is.
         is ≡ is_entity_info (info_of (seen view.now r) node.now)) }
 {
     match info_in(lookup, alloc, view, node)? {
@@ -140,7 +140,7 @@ pub(crate) fn is_node<S: Alter + Drop>(
     view: &View,
     node: &Node,
 ) -> Result<bool, ReadError>
-    ensures { Reads S.Store lookup.old lookup.new result (λ r is.
+    ensures { ReadsIn S.Store lookup.old lookup.new result (λ r is.
         is ≡ is_some_info (info_of (seen view.now r) node.now)) }
 {
     Ok(info_in(lookup, alloc, view, node)?.is_some())
@@ -154,7 +154,7 @@ fn info_told<S: Alter + Drop>(
     view: &View,
     node: &Node,
 ) -> Result<Option<NodeInfo>, ReadError>
-    ensures { Reads S.Store lookup.old lookup.new result (λ r info.
+    ensures { ReadsIn S.Store lookup.old lookup.new result (λ r info.
         info ≡ info_of (seen view.now r) node.now) }
 {
     if let Some(info) = lookup.info(alloc, view, node)? {
@@ -176,7 +176,7 @@ pub fn read_node<S: Alter + Drop>(
     day: Day,
     node: &Node,
 ) -> Result<Option<NodeInfo>, ReadError>
-    ensures { Reads S.Store lookup.old lookup.new result (λ r info.
+    ensures { ReadsIn S.Store lookup.old lookup.new result (λ r info.
         info ≡ info_of (seen_at viewer.now day r) node.now) }
 {
     let view = view_of(lookup, alloc, viewer, day)?;

@@ -4,7 +4,7 @@ ghost use Rattle.std.specs.Prelude.{◌≡◌, map};
 ghost use Rattle.bor_records.specs.Links.Series.{open_at};
 ghost use Rattle.bor_register.specs.Rows.{visible};
 ghost use Rattle.bor_store_sql.specs.Selected.{identifiers_at, interests_at};
-ghost use Rattle.bor_store_reads.specs.Answering.{Reads};
+ghost use Rattle.bor_store_reads.specs.Answering.{ReadsIn};
 ghost use Rattle.bor_store_keys.specs.Latest.{listed_row};
 ghost use Rattle.bor_store_keys.specs.Viewed.{rows_seen};
 
@@ -27,7 +27,7 @@ fn interests<S: Alter + Drop>(
     alloc: Global,
     at: &At,
 ) -> Result<Vec<Interest>, ReadError>
-    ensures { Reads S.Store lookup.old lookup.new result (λ r interests.
+    ensures { ReadsIn S.Store lookup.old lookup.new result (λ r interests.
         interests.items ≡ map (λ row. row.interest) (interests_at at.now r.members)) }
 {
     let rows = lookup.interests(alloc, at)?;
@@ -40,7 +40,7 @@ fn identifiers<S: Alter + Drop>(
     alloc: Global,
     at: &At,
 ) -> Result<Vec<Identifier>, ReadError>
-    ensures { Reads S.Store lookup.old lookup.new result (λ r identifiers.
+    ensures { ReadsIn S.Store lookup.old lookup.new result (λ r identifiers.
         identifiers.items ≡ map (λ row. row.identifier) (identifiers_at at.now r.members)) }
 {
     let rows = lookup.identifiers(alloc, at)?;
@@ -53,7 +53,7 @@ fn with_lists<S: Alter + Drop>(
     alloc: Global,
     row: StatementRow,
 ) -> Result<Row, ReadError>
-    ensures { Reads S.Store lookup.old lookup.new result (λ r listed.
+    ensures { ReadsIn S.Store lookup.old lookup.new result (λ r listed.
         listed ≡ listed_row r.members row) }
 {
     match &row.part {
@@ -76,7 +76,7 @@ pub(crate) fn open_row<S: Alter + Drop>(
     view: &View,
     node: &Node,
 ) -> Result<Option<Row>, ReadError>
-    ensures { Reads S.Store lookup.old lookup.new result (λ r row.
+    ensures { ReadsIn S.Store lookup.old lookup.new result (λ r row.
         row ≡ open_at view.now.day node.now (rows_seen view.now r)) }
 {
     match open_statement(lookup, alloc, view, node)? {
@@ -97,7 +97,7 @@ pub fn read_open_row<S: Alter + Drop>(
     day: Day,
     node: &Node,
 ) -> Result<Option<Row>, ReadError>
-    ensures { Reads S.Store lookup.old lookup.new result (λ r row.
+    ensures { ReadsIn S.Store lookup.old lookup.new result (λ r row.
         row ≡ open_at day node.now (visible viewer.now r.day r.members)) }
 {
     let view = view_of(lookup, alloc, viewer, day)?;

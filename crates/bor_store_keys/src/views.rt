@@ -2,7 +2,7 @@
 
 ghost use Rattle.std.specs.Prelude.{◌≡◌};
 ghost use Rattle.bor_register.specs.Register.{filings_of};
-ghost use Rattle.bor_store_reads.specs.Answering.{Reads};
+ghost use Rattle.bor_store_reads.specs.Answering.{ReadsIn};
 ghost use Rattle.bor_store_reads.specs.Asking.{is_number_seen};
 
 use crate::found::FilingKey;
@@ -20,7 +20,7 @@ fn view_read<S: Alter + Drop>(
     viewer: &AgentName,
     day: Day,
 ) -> Result<View, ReadError>
-    ensures { Reads S.Store lookup.old lookup.new result (λ r view.
+    ensures { ReadsIn S.Store lookup.old lookup.new result (λ r view.
         view ≡ record { viewer = viewer.now; today = r.day; day = day }) }
 {
     let today = lookup.read_today(alloc)?;
@@ -37,7 +37,7 @@ pub(crate) fn view_of<S: Alter + Drop>(
     viewer: &AgentName,
     day: Day,
 ) -> Result<View, ReadError>
-    ensures { Reads S.Store lookup.old lookup.new result (λ r view.
+    ensures { ReadsIn S.Store lookup.old lookup.new result (λ r view.
         view ≡ record { viewer = viewer.now; today = r.day; day = day }) }
 {
     match lookup.today(viewer, day) {
@@ -56,7 +56,7 @@ fn filing_read<S: Alter + Drop>(
     view: &View,
     key: FilingKey,
 ) -> Result<bool, ReadError>
-    ensures { Reads S.Store lookup.old lookup.new result (λ r seen.
+    ensures { ReadsIn S.Store lookup.old lookup.new result (λ r seen.
         seen ≡ is_number_seen view.now.viewer view.now.today key.agent
         (filings_of key.agent r.members) key.number) }
 {
@@ -73,7 +73,7 @@ pub(crate) fn is_filing_seen<S: Alter + Drop>(
     agent: &AgentName,
     number: u32,
 ) -> Result<bool, ReadError>
-    ensures { Reads S.Store lookup.old lookup.new result (λ r seen.
+    ensures { ReadsIn S.Store lookup.old lookup.new result (λ r seen.
         seen ≡ is_number_seen view.now.viewer view.now.today agent.now
         (filings_of agent.now r.members) number) }
 {

@@ -18,7 +18,7 @@ use Rattle.bor_store_sql.specs.declared.rows.typed.FilingRow.{FilingRow}
 use Rattle.bor_store_sql.specs.declared.rows.typed.Part.{Part}
 use Rattle.bor_store_sql.specs.declared.rows.typed.Placed.{Placed}
 use Rattle.bor_store_sql.specs.declared.rows.typed.StatementRow.{StatementRow}
-use Rattle.bor_store_sql.specs.Rows.Placed.{bare, filing_row, identifier_rows, identifiers_from, identifiers_of, interest_rows, interests_from, interests_of, part_of, placed}
+use Rattle.bor_store_sql.specs.Rows.Placed.{bare, filing_row, identifier_rows, identifiers_from, identifiers_listed, interest_rows, interests_from, interests_listed, part_of, placed}
 use Rattle.bor_records.specs.declared.row.Row.{Row}
 use Rattle.bor_store_sql.specs.Rows.Seen.{is_line_visible, row_placed}
 use Rattle.bor_store_sql.specs.Rows.Stored.{AreNumbered, IsStored}
@@ -47,19 +47,19 @@ module _ {Y : Type 0} (rows : Placed → List Y) (of_row : Part → At → List 
 interests_are : (ms : List Member) (p : Placed) → IsAlone (placed ms) p → part_interests (part_of p.statement.details) p.at ms ≡ interest_rows p
 interests_are ms p alone = go p.statement.details refl
   where
-    go : (d : Details) → p.statement.details ≡ d → part_interests (part_of d) p.at ms ≡ interests_from p.at 1 (interests_of d)
+    go : (d : Details) → p.statement.details ≡ d → part_interests (part_of d) p.at ms ≡ interests_from p.at 1 (interests_listed d)
     go (details.Entity kind name identifiers) e = refl
     go (details.Person kind name) e = refl
     go (details.Relationship subject party interests) e =
-        ap (flat_map interest_rows) alone ∙ append-nil (interest_rows p) ∙ ap (λ d. interests_from p.at 1 (interests_of d)) e
+        ap (flat_map interest_rows) alone ∙ append-nil (interest_rows p) ∙ ap (λ d. interests_from p.at 1 (interests_listed d)) e
 
 -- an entity's identifiers, and no others' are there
 identifiers_are : (ms : List Member) (p : Placed) → IsAlone (placed ms) p → part_identifiers (part_of p.statement.details) p.at ms ≡ identifier_rows p
 identifiers_are ms p alone = go p.statement.details refl
   where
-    go : (d : Details) → p.statement.details ≡ d → part_identifiers (part_of d) p.at ms ≡ identifiers_from p.at 1 (identifiers_of d)
+    go : (d : Details) → p.statement.details ≡ d → part_identifiers (part_of d) p.at ms ≡ identifiers_from p.at 1 (identifiers_listed d)
     go (details.Entity kind name identifiers) e =
-        ap (flat_map identifier_rows) alone ∙ append-nil (identifier_rows p) ∙ ap (λ d. identifiers_from p.at 1 (identifiers_of d)) e
+        ap (flat_map identifier_rows) alone ∙ append-nil (identifier_rows p) ∙ ap (λ d. identifiers_from p.at 1 (identifiers_listed d)) e
     go (details.Person kind name) e = refl
     go (details.Relationship subject party interests) e = refl
 

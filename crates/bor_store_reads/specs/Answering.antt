@@ -50,9 +50,9 @@ pub record ReadsAs {X : Type 0} (old new : State) (result : Result X ReadError)
   pub answer : Answers old new result P
 
 -- the same of a connection
-abbrev pub Reads : {S X : Type 0} → Ghosts S → Held S → Held S → Result X ReadError
+abbrev pub ReadsIn : {S X : Type 0} → Ghosts S → Held S → Held S → Result X ReadError
     → (Register → X → Type 0) → Type 0
-Reads g old new result P = ReadsAs (state g old) (state g new) result P
+ReadsIn g old new result P = ReadsAs (state g old) (state g new) result P
 
 -- the fault of a keep for an error
 abbrev pub told_as : ReadError → StoreFault

@@ -5,7 +5,7 @@ ghost use Rattle.sqlite.specs.Held.{state};
 ghost use Rattle.bor_register.specs.Publication.{agent_line};
 ghost use Rattle.bor_register.specs.Register.{agent_with, caller_of, is_enrolled};
 ghost use Rattle.bor_store_sql.specs.Shown.{IsUp};
-ghost use Rattle.bor_store_reads.specs.Answering.{Reads};
+ghost use Rattle.bor_store_reads.specs.Answering.{ReadsIn};
 
 use crate::fault::ReadError;
 use crate::register::{read_day, read_register};
@@ -24,7 +24,7 @@ fn found_agent<S: Alter>(
     alloc: Global,
     token: &Token,
 ) -> Result<Option<AgentRow>, ReadError>
-    ensures { Reads S.Store conn.old conn.new result (λ r agent.
+    ensures { ReadsIn S.Store conn.old conn.new result (λ r agent.
         option_map (λ a. a.name) agent ≡ agent_with token.now r.members) }
 {
     first_value(alloc, agent_by_token(conn, token.as_str()))
@@ -37,7 +37,7 @@ pub fn read_who<S: Alter>(
     alloc: Global,
     token: &Token,
 ) -> Result<Option<Caller>, ReadError>
-    ensures reads { Reads S.Store conn.old conn.new result (λ r caller.
+    ensures reads { ReadsIn S.Store conn.old conn.new result (λ r caller.
         caller ≡ caller_of token.now r) }
     ensures up { IfOk result (λ _. IsUp (state S.Store conn.new)) }
 {
@@ -52,7 +52,7 @@ pub fn read_who<S: Alter>(
 
 /// Whether an agent has the name.
 pub fn has_agent<S: Alter>(conn: &mut Connection<S>, agent: &AgentName) -> Result<bool, ReadError>
-    ensures { Reads S.Store conn.old conn.new result (λ r has.
+    ensures { ReadsIn S.Store conn.old conn.new result (λ r has.
         has ≡ is_enrolled agent.now r.members) }
 {
     any(agent_by_name(conn, agent.as_str()))
@@ -64,7 +64,7 @@ pub fn read_agents<S: Alter>(
     conn: &mut Connection<S>,
     alloc: Global,
 ) -> Result<Vec<AgentLine>, ReadError>
-    ensures { Reads S.Store conn.old conn.new result (λ r lines.
+    ensures { ReadsIn S.Store conn.old conn.new result (λ r lines.
         lines.items ≡ map (agent_line r.day) r.members) }
 {
     let day = read_day(conn, alloc)?;

@@ -7,7 +7,7 @@ ghost use Rattle.bor_register.specs.Rows.{rows_of};
 ghost use Rattle.bor_store_sql.specs.Rows.Placed.{bare, interest_line, period_rows};
 ghost use Rattle.bor_store_sql.specs.Rows.Seen.{is_seen, row_placed};
 ghost use Rattle.bor_store_sql.specs.Selected.{identifiers_at, in_declaration, interests_at, placed_of};
-ghost use Rattle.bor_store_reads.specs.Answering.{IsNoDamage, Reads};
+ghost use Rattle.bor_store_reads.specs.Answering.{IsNoDamage, ReadsIn};
 ghost use Rattle.bor_store_reads.specs.Asking.{part_identifiers, part_interests};
 
 use crate::fault::ReadError;
@@ -34,7 +34,7 @@ fn statements<S: Alter>(
     agent: &AgentName,
     declaration: &Ident,
 ) -> Result<Vec<StatementRow>, ReadError>
-    ensures { Reads S.Store conn.old conn.new result (λ r rows.
+    ensures { ReadsIn S.Store conn.old conn.new result (λ r rows.
         rows.items ≡ map bare (in_declaration declaration.now (placed_of agent.now r))) }
 {
     all_values(
@@ -49,7 +49,7 @@ fn lines_of_one<S: Alter>(
     alloc: Global,
     at: &At,
 ) -> Result<Vec<InterestLine>, ReadError>
-    ensures { Reads S.Store conn.old conn.new result (λ r rows.
+    ensures { ReadsIn S.Store conn.old conn.new result (λ r rows.
         rows.items ≡ map interest_line (interests_at at.now r.members)) }
 {
     all_values(
@@ -64,7 +64,7 @@ fn periods_of_one<S: Alter>(
     alloc: Global,
     at: &At,
 ) -> Result<Vec<PeriodRow>, ReadError>
-    ensures { Reads S.Store conn.old conn.new result (λ r rows.
+    ensures { ReadsIn S.Store conn.old conn.new result (λ r rows.
         rows.items ≡ flat_map period_rows (interests_at at.now r.members)) }
 {
     all_values(
@@ -79,7 +79,7 @@ pub fn interests_of_one<S: Alter>(
     alloc: Global,
     at: &At,
 ) -> Result<Vec<InterestRow>, ReadError>
-    ensures { Reads S.Store conn.old conn.new result (λ r rows.
+    ensures { ReadsIn S.Store conn.old conn.new result (λ r rows.
         rows.items ≡ interests_at at.now r.members) }
 {
     let lines = lines_of_one(conn, alloc, at)?;
@@ -94,7 +94,7 @@ fn interests_of_row<S: Alter>(
     alloc: Global,
     row: &StatementRow,
 ) -> Result<Vec<InterestRow>, ReadError>
-    ensures { Reads S.Store conn.old conn.new result (λ r rows.
+    ensures { ReadsIn S.Store conn.old conn.new result (λ r rows.
         rows.items ≡ part_interests row.now.part row.now.at r.members) }
 {
     match row.part {
@@ -110,7 +110,7 @@ fn interests_of<S: Alter>(
     alloc: Global,
     rows: &[StatementRow],
 ) -> Result<Vec<InterestRow>, ReadError>
-    ensures { Reads S.Store conn.old conn.new result (λ r interests.
+    ensures { ReadsIn S.Store conn.old conn.new result (λ r interests.
         interests.items ≡ flat_map (λ row. part_interests row.part row.at r.members) rows.now) }
 {
     let mut interests = Vec::new(alloc);
@@ -127,7 +127,7 @@ pub fn identifiers_of_one<S: Alter>(
     alloc: Global,
     at: &At,
 ) -> Result<Vec<IdentifierRow>, ReadError>
-    ensures { Reads S.Store conn.old conn.new result (λ r rows.
+    ensures { ReadsIn S.Store conn.old conn.new result (λ r rows.
         rows.items ≡ identifiers_at at.now r.members) }
 {
     all_values(
@@ -143,7 +143,7 @@ fn identifiers_of_row<S: Alter>(
     alloc: Global,
     row: &StatementRow,
 ) -> Result<Vec<IdentifierRow>, ReadError>
-    ensures { Reads S.Store conn.old conn.new result (λ r rows.
+    ensures { ReadsIn S.Store conn.old conn.new result (λ r rows.
         rows.items ≡ part_identifiers row.now.part row.now.at r.members) }
 {
     match row.part {
@@ -159,7 +159,7 @@ fn identifiers_of<S: Alter>(
     alloc: Global,
     rows: &[StatementRow],
 ) -> Result<Vec<IdentifierRow>, ReadError>
-    ensures { Reads S.Store conn.old conn.new result (λ r identifiers.
+    ensures { ReadsIn S.Store conn.old conn.new result (λ r identifiers.
         identifiers.items ≡ flat_map (λ row. part_identifiers row.part row.at r.members) rows.now) }
 {
     let mut identifiers = Vec::new(alloc);
@@ -177,7 +177,7 @@ fn placed<S: Alter>(
     agent: &AgentName,
     declaration: &Ident,
 ) -> Result<Vec<Placed>, ReadError>
-    ensures { Reads S.Store conn.old conn.new result (λ r placed.
+    ensures { ReadsIn S.Store conn.old conn.new result (λ r placed.
         placed.items ≡ in_declaration declaration.now (placed_of agent.now r)) }
 {
     let statements = statements(conn, alloc, agent, declaration)?;
@@ -211,7 +211,7 @@ fn seen<S: Alter>(
     day: Day,
     statements: Vec<Placed>,
 ) -> Result<Vec<Row>, ReadError>
-    ensures { Reads S.Store conn.old conn.new result (λ r rows.
+    ensures { ReadsIn S.Store conn.old conn.new result (λ r rows.
         rows.items ≡ map row_placed
         (filter (is_seen viewer.now day agent.now
         (filings_of agent.now r.members)) statements.items)) }
@@ -238,7 +238,7 @@ pub fn read_rows_of<S: Alter>(
     agent: &AgentName,
     declaration: &Ident,
 ) -> Result<Vec<Row>, ReadError>
-    ensures { Reads S.Store conn.old conn.new result (λ r rows.
+    ensures { ReadsIn S.Store conn.old conn.new result (λ r rows.
         rows.items ≡ rows_of viewer.now r.day agent.now declaration.now
         (filings_of agent.now r.members)) }
 {

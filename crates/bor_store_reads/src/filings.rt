@@ -4,7 +4,7 @@ ghost use Rattle.std.specs.Prelude.{◌≡◌, map, option_map, length, unwrap_o
 ghost use Rattle.bor_register.specs.Register.{filings_of, filing_keyed};
 ghost use Rattle.bor_register.specs.Publication.{line_of, filing_shown, has_bytes};
 ghost use Rattle.bor_store_sql.specs.Rows.Placed.{filing_row};
-ghost use Rattle.bor_store_reads.specs.Answering.{Reads};
+ghost use Rattle.bor_store_reads.specs.Answering.{ReadsIn};
 
 use crate::fault::ReadError;
 use crate::register::read_day;
@@ -23,7 +23,7 @@ pub fn read_filing<S: Alter>(
     agent: &AgentName,
     key: &LodgeKey,
 ) -> Result<Option<Filing>, ReadError>
-    ensures { Reads S.Store conn.old conn.new result (λ r filing.
+    ensures { ReadsIn S.Store conn.old conn.new result (λ r filing.
         filing ≡ option_map filing_shown (filing_keyed key.now (filings_of agent.now r.members))) }
 {
     first_value(alloc, filing_by_key(conn, agent.as_str(), key.as_str()))
@@ -36,7 +36,7 @@ fn found_line<S: Alter>(
     agent: &AgentName,
     key: &LodgeKey,
 ) -> Result<Option<FilingRow>, ReadError>
-    ensures { Reads S.Store conn.old conn.new result (λ r row.
+    ensures { ReadsIn S.Store conn.old conn.new result (λ r row.
         row ≡ option_map (filing_row agent.now)
         (filing_keyed key.now (filings_of agent.now r.members))) }
 {
@@ -52,7 +52,7 @@ pub fn read_line<S: Alter>(
     agent: &AgentName,
     key: &LodgeKey,
 ) -> Result<Option<FilingLine>, ReadError>
-    ensures { Reads S.Store conn.old conn.new result (λ r line.
+    ensures { ReadsIn S.Store conn.old conn.new result (λ r line.
         line ≡ option_map (line_of r.day) (filing_keyed key.now (filings_of agent.now r.members))) }
 {
     let day = read_day(conn, alloc)?;
@@ -69,7 +69,7 @@ pub fn has_file<S: Alter>(
     key: &LodgeKey,
     bytes: &[u8],
 ) -> Result<bool, ReadError>
-    ensures { Reads S.Store conn.old conn.new result (λ r has.
+    ensures { ReadsIn S.Store conn.old conn.new result (λ r has.
         has ≡ has_bytes bytes.now (filing_keyed key.now (filings_of agent.now r.members))) }
 {
     flag(same_bytes(conn, agent.as_str(), key.as_str(), bytes))
@@ -81,7 +81,7 @@ fn found_last<S: Alter>(
     alloc: Global,
     agent: &AgentName,
 ) -> Result<Option<FilingRow>, ReadError>
-    ensures { Reads S.Store conn.old conn.new result (λ r row.
+    ensures { ReadsIn S.Store conn.old conn.new result (λ r row.
         unwrap_or (option_map (λ f. f.number) row) 0 ≡ length (filings_of agent.now r.members)) }
 {
     first_value(alloc, last_filing(conn, agent.as_str()))
@@ -93,7 +93,7 @@ pub fn filing_count<S: Alter>(
     alloc: Global,
     agent: &AgentName,
 ) -> Result<usize, ReadError>
-    ensures { Reads S.Store conn.old conn.new result (λ r count.
+    ensures { ReadsIn S.Store conn.old conn.new result (λ r count.
         count ≡ length (filings_of agent.now r.members)) }
 {
     match found_last(conn, alloc, agent)? {
@@ -108,7 +108,7 @@ fn found_lines<S: Alter>(
     alloc: Global,
     agent: &AgentName,
 ) -> Result<Vec<FilingRow>, ReadError>
-    ensures { Reads S.Store conn.old conn.new result (λ r rows.
+    ensures { ReadsIn S.Store conn.old conn.new result (λ r rows.
         rows.items ≡ map (filing_row agent.now) (filings_of agent.now r.members)) }
 {
     all_values(alloc, filings_of_agent(conn, agent.as_str()))
@@ -121,7 +121,7 @@ pub fn read_filings<S: Alter>(
     alloc: Global,
     agent: &AgentName,
 ) -> Result<Vec<FilingLine>, ReadError>
-    ensures { Reads S.Store conn.old conn.new result (λ r lines.
+    ensures { ReadsIn S.Store conn.old conn.new result (λ r lines.
         lines.items ≡ map (line_of r.day) (filings_of agent.now r.members)) }
 {
     let day = read_day(conn, alloc)?;

@@ -2,7 +2,7 @@
 
 ghost use Rattle.std.specs.Prelude.{◌≡◌, false, IfOk};
 ghost use Rattle.bor_register.specs.Register.{filings_of};
-ghost use Rattle.bor_store_reads.specs.Answering.{Reads};
+ghost use Rattle.bor_store_reads.specs.Answering.{ReadsIn};
 ghost use Rattle.bor_store_reads.specs.Asking.{is_number_seen, IsKnown};
 
 use crate::fault::ReadError;
@@ -27,7 +27,7 @@ pub fn is_number_seen<S: Alter>(
     day: Day,
     number: u32,
 ) -> Result<bool, ReadError>
-    ensures { Reads S.Store conn.old conn.new result (λ r seen.
+    ensures { ReadsIn S.Store conn.old conn.new result (λ r seen.
         seen ≡ is_number_seen viewer.now day agent.now (filings_of agent.now r.members) number) }
 {
     match found_filing(conn, alloc, agent, number)? {
@@ -47,7 +47,7 @@ pub(crate) fn known_of<S: Alter>(
     number: u32,
 ) -> Result<Known, ReadError>
     ensures number { IfOk result (λ known. known.number ≡ number) }
-    ensures reads { Reads S.Store conn.old conn.new result (λ r known.
+    ensures reads { ReadsIn S.Store conn.old conn.new result (λ r known.
         IsKnown viewer.now day agent.now (filings_of agent.now r.members) last
         → IsKnown viewer.now day agent.now (filings_of agent.now r.members) known) }
 {

@@ -3,7 +3,7 @@
 ghost use Rattle.std.specs.Prelude.{◌≡◌, map, option_map, slice_get};
 ghost use Rattle.bor_store_sql.specs.Rows.Placed.{bare};
 ghost use Rattle.bor_store_sql.specs.Selected.{identified_by, in_record, in_series, placed_of, standing_at, with_subject};
-ghost use Rattle.bor_store_reads.specs.Answering.{Reads};
+ghost use Rattle.bor_store_reads.specs.Answering.{ReadsIn};
 
 use crate::fault::ReadError;
 use crate::values::{all_values, first_value};
@@ -24,7 +24,7 @@ pub fn read_series<S: Alter>(
     declaration: &Ident,
     rec: &Ident,
 ) -> Result<Vec<StatementRow>, ReadError>
-    ensures { Reads S.Store conn.old conn.new result (λ r rows.
+    ensures { ReadsIn S.Store conn.old conn.new result (λ r rows.
         rows.items ≡ map bare (in_series declaration.now rec.now (placed_of agent.now r))) }
 {
     all_values(
@@ -41,7 +41,7 @@ pub fn read_record<S: Alter>(
     agent: &str,
     rec: &str,
 ) -> Result<Vec<StatementRow>, ReadError>
-    ensures { Reads S.Store conn.old conn.new result (λ r rows.
+    ensures { ReadsIn S.Store conn.old conn.new result (λ r rows.
         rows.items ≡ map bare (in_record rec.now (placed_of agent.now r))) }
 {
     all_values(alloc, statements_of_record(conn, agent, rec))
@@ -56,7 +56,7 @@ pub fn read_subject<S: Alter>(
     declaration: &Ident,
     rec: &Ident,
 ) -> Result<Vec<StatementRow>, ReadError>
-    ensures { Reads S.Store conn.old conn.new result (λ r rows.
+    ensures { ReadsIn S.Store conn.old conn.new result (λ r rows.
         rows.items ≡ map bare (with_subject declaration.now rec.now (placed_of agent.now r))) }
 {
     all_values(
@@ -71,7 +71,7 @@ pub fn read_place<S: Alter>(
     alloc: Global,
     at: &At,
 ) -> Result<Option<StatementRow>, ReadError>
-    ensures { Reads S.Store conn.old conn.new result (λ r row.
+    ensures { ReadsIn S.Store conn.old conn.new result (λ r row.
         row ≡ option_map bare (slice_get (standing_at at.now r.members) 0)) }
 {
     first_value(
@@ -88,7 +88,7 @@ pub fn read_identified<S: Alter>(
     scheme: &str,
     id: &str,
 ) -> Result<Vec<IdentifierRow>, ReadError>
-    ensures { Reads S.Store conn.old conn.new result (λ r rows.
+    ensures { ReadsIn S.Store conn.old conn.new result (λ r rows.
         rows.items ≡ identified_by scheme.now id.now r.members) }
 {
     all_values(alloc, identifiers_by_id(conn, scheme, id))

@@ -4,7 +4,7 @@ ghost use Rattle.std.specs.Prelude.{◌≡◌, IfOk, Some};
 ghost use Rattle.sqlite.specs.Held.{state};
 ghost use Rattle.bor_store_sql.specs.Rows.Placed.{register_row};
 ghost use Rattle.bor_store_sql.specs.Shown.{IsUp};
-ghost use Rattle.bor_store_reads.specs.Answering.{Reads};
+ghost use Rattle.bor_store_reads.specs.Answering.{ReadsIn};
 
 use crate::fault::ReadError;
 use crate::values::first_value;
@@ -18,7 +18,7 @@ fn found_register<S: Alter>(
     conn: &mut Connection<S>,
     alloc: Global,
 ) -> Result<Option<RegisterRow>, ReadError>
-    ensures reads { Reads S.Store conn.old conn.new result (λ r row. row ≡ Some (register_row r)) }
+    ensures reads { ReadsIn S.Store conn.old conn.new result (λ r row. row ≡ Some (register_row r)) }
     ensures up { IfOk result (λ _. IsUp (state S.Store conn.new)) }
 {
     first_value(alloc, all_register(conn))
@@ -29,7 +29,7 @@ pub(crate) fn read_register<S: Alter>(
     conn: &mut Connection<S>,
     alloc: Global,
 ) -> Result<RegisterRow, ReadError>
-    ensures reads { Reads S.Store conn.old conn.new result (λ r row. row ≡ register_row r) }
+    ensures reads { ReadsIn S.Store conn.old conn.new result (λ r row. row ≡ register_row r) }
     ensures up { IfOk result (λ _. IsUp (state S.Store conn.new)) }
 {
     match found_register(conn, alloc)? {
@@ -40,7 +40,7 @@ pub(crate) fn read_register<S: Alter>(
 
 /// The register's day.
 pub fn read_day<S: Alter>(conn: &mut Connection<S>, alloc: Global) -> Result<Day, ReadError>
-    ensures { Reads S.Store conn.old conn.new result (λ r day. day ≡ r.day) }
+    ensures { ReadsIn S.Store conn.old conn.new result (λ r day. day ≡ r.day) }
 {
     Ok(read_register(conn, alloc)?.day)
 }

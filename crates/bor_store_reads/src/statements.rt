@@ -9,7 +9,7 @@ ghost use Rattle.bor_register.specs.Register.{filings_of};
 ghost use Rattle.bor_register.specs.Live.{live_of};
 ghost use Rattle.bor_store_sql.specs.Rows.Placed.{bare, filing_row};
 ghost use Rattle.bor_store_sql.specs.Selected.{in_series, numbered, placed_of};
-ghost use Rattle.bor_store_reads.specs.Answering.{Reads};
+ghost use Rattle.bor_store_reads.specs.Answering.{ReadsIn};
 
 use crate::fault::ReadError;
 use crate::values::{any, first_value};
@@ -26,7 +26,7 @@ pub fn has_statement<S: Alter>(
     agent: &AgentName,
     id: &Ident,
 ) -> Result<bool, ReadError>
-    ensures { Reads S.Store conn.old conn.new result (λ r has.
+    ensures { ReadsIn S.Store conn.old conn.new result (λ r has.
         has ≡ has_id id.now (live_of (filings_of agent.now r.members))) }
 {
     any(statement_by_id(conn, agent.as_str(), id.as_str()))
@@ -40,7 +40,7 @@ pub(crate) fn found_statement<S: Alter>(
     declaration: &Ident,
     rec: &Ident,
 ) -> Result<Option<StatementRow>, ReadError>
-    ensures { Reads S.Store conn.old conn.new result (λ r row.
+    ensures { ReadsIn S.Store conn.old conn.new result (λ r row.
         row ≡ option_map bare
         (last_or None (in_series declaration.now rec.now (placed_of agent.now r)))) }
 {
@@ -57,7 +57,7 @@ pub(crate) fn found_filing<S: Alter>(
     agent: &AgentName,
     number: u32,
 ) -> Result<Option<FilingRow>, ReadError>
-    ensures { Reads S.Store conn.old conn.new result (λ r row.
+    ensures { ReadsIn S.Store conn.old conn.new result (λ r row.
         row ≡ option_map (filing_row agent.now)
         (slice_get (numbered number (filings_of agent.now r.members)) 0)) }
 {
@@ -73,7 +73,7 @@ pub fn read_last<S: Alter>(
     declaration: &Ident,
     rec: &Ident,
 ) -> Result<Option<Last>, ReadError>
-    ensures { Reads S.Store conn.old conn.new result (λ r last.
+    ensures { ReadsIn S.Store conn.old conn.new result (λ r last.
         last ≡ last_of declaration.now rec.now (live_of (filings_of agent.now r.members))) }
 {
     let Some(row) = found_statement(conn, alloc, agent, declaration, rec)? else {

@@ -7,7 +7,7 @@ ghost use Rattle.bor_register.specs.Withdrawal.{has_successor};
 ghost use Rattle.bor_store_sql.specs.Rows.Placed.{bare};
 ghost use Rattle.bor_store_sql.specs.Rows.Seen.{is_later};
 ghost use Rattle.bor_store_sql.specs.Selected.{in_filing, in_series, placed_of};
-ghost use Rattle.bor_store_reads.specs.Answering.{Reads};
+ghost use Rattle.bor_store_reads.specs.Answering.{ReadsIn};
 
 use crate::fault::ReadError;
 use crate::statements::found_statement;
@@ -25,7 +25,7 @@ fn found_statements<S: Alter>(
     agent: &AgentName,
     number: u32,
 ) -> Result<Vec<StatementRow>, ReadError>
-    ensures { Reads S.Store conn.old conn.new result (λ r rows.
+    ensures { ReadsIn S.Store conn.old conn.new result (λ r rows.
         rows.items ≡ map bare (in_filing number (placed_of agent.now r))) }
 {
     all_values(alloc, statements_of_filing(conn, agent.as_str(), number))
@@ -40,7 +40,7 @@ fn is_followed<S: Alter>(
     number: u32,
     row: &StatementRow,
 ) -> Result<bool, ReadError>
-    ensures { Reads S.Store conn.old conn.new result (λ r followed.
+    ensures { ReadsIn S.Store conn.old conn.new result (λ r followed.
         followed ≡ is_later number
         (last_or None (in_series row.now.declaration row.now.rec (placed_of agent.now r)))) }
 {
@@ -58,7 +58,7 @@ fn any_followed<S: Alter>(
     number: u32,
     rows: &[StatementRow],
 ) -> Result<bool, ReadError>
-    ensures { Reads S.Store conn.old conn.new result (λ r any.
+    ensures { ReadsIn S.Store conn.old conn.new result (λ r any.
         any ≡ list_any
         (λ row. is_later number
         (last_or None (in_series row.declaration row.rec (placed_of agent.now r)))) rows.now) }
@@ -80,7 +80,7 @@ pub fn has_successor<S: Alter>(
     agent: &AgentName,
     number: u32,
 ) -> Result<bool, ReadError>
-    ensures { Reads S.Store conn.old conn.new result (λ r has.
+    ensures { ReadsIn S.Store conn.old conn.new result (λ r has.
         has ≡ has_successor number (filings_of agent.now r.members)) }
 {
     let rows = found_statements(conn, alloc, agent, number)?;

@@ -7,7 +7,7 @@ ghost use Rattle.sqlite.specs.Held.{state};
 ghost use Rattle.bor_store_sql.specs.Rows.Placed.{agent_row, bare, filing_lines, identifier_rows, interest_rows, interest_line, period_rows, placed};
 ghost use Rattle.bor_register.specs.Bare.{without_files};
 ghost use Rattle.bor_store_sql.specs.Shown.{IsUp};
-ghost use Rattle.bor_store_reads.specs.Answering.{Reads};
+ghost use Rattle.bor_store_reads.specs.Answering.{ReadsIn};
 
 use crate::fault::ReadError;
 use crate::register::read_register;
@@ -41,7 +41,7 @@ pub(crate) fn agents<S: Alter>(
     conn: &mut Connection<S>,
     alloc: Global,
 ) -> Result<Vec<AgentRow>, ReadError>
-    ensures { Reads S.Store conn.old conn.new result (λ r rows.
+    ensures { ReadsIn S.Store conn.old conn.new result (λ r rows.
         rows.items ≡ map agent_row r.members) }
 {
     all_values(alloc, all_agents(conn))
@@ -52,7 +52,7 @@ pub(crate) fn filings<S: Alter>(
     conn: &mut Connection<S>,
     alloc: Global,
 ) -> Result<Vec<FilingRow>, ReadError>
-    ensures { Reads S.Store conn.old conn.new result (λ r rows.
+    ensures { ReadsIn S.Store conn.old conn.new result (λ r rows.
         rows.items ≡ filing_lines r.members) }
 {
     all_values(alloc, all_filings(conn))
@@ -63,7 +63,7 @@ fn statements<S: Alter>(
     conn: &mut Connection<S>,
     alloc: Global,
 ) -> Result<Vec<StatementRow>, ReadError>
-    ensures { Reads S.Store conn.old conn.new result (λ r rows.
+    ensures { ReadsIn S.Store conn.old conn.new result (λ r rows.
         rows.items ≡ map bare (placed r.members)) }
 {
     all_values(alloc, all_statements(conn))
@@ -74,7 +74,7 @@ fn interest_lines<S: Alter>(
     conn: &mut Connection<S>,
     alloc: Global,
 ) -> Result<Vec<InterestLine>, ReadError>
-    ensures { Reads S.Store conn.old conn.new result (λ r rows.
+    ensures { ReadsIn S.Store conn.old conn.new result (λ r rows.
         rows.items ≡ map interest_line (flat_map interest_rows (placed r.members))) }
 {
     all_values(alloc, all_interests(conn))
@@ -82,7 +82,7 @@ fn interest_lines<S: Alter>(
 
 // The rows of the days of all interests, by the place of their statement.
 fn periods<S: Alter>(conn: &mut Connection<S>, alloc: Global) -> Result<Vec<PeriodRow>, ReadError>
-    ensures { Reads S.Store conn.old conn.new result (λ r rows.
+    ensures { ReadsIn S.Store conn.old conn.new result (λ r rows.
         rows.items ≡ flat_map period_rows (flat_map interest_rows (placed r.members))) }
 {
     all_values(alloc, all_periods(conn))
@@ -93,7 +93,7 @@ fn interests<S: Alter>(
     conn: &mut Connection<S>,
     alloc: Global,
 ) -> Result<Vec<InterestRow>, ReadError>
-    ensures { Reads S.Store conn.old conn.new result (λ r rows.
+    ensures { ReadsIn S.Store conn.old conn.new result (λ r rows.
         rows.items ≡ flat_map interest_rows (placed r.members)) }
 {
     let lines = interest_lines(conn, alloc)?;
@@ -106,7 +106,7 @@ fn identifiers<S: Alter>(
     conn: &mut Connection<S>,
     alloc: Global,
 ) -> Result<Vec<IdentifierRow>, ReadError>
-    ensures { Reads S.Store conn.old conn.new result (λ r rows.
+    ensures { ReadsIn S.Store conn.old conn.new result (λ r rows.
         rows.items ≡ flat_map identifier_rows (placed r.members)) }
 {
     all_values(alloc, all_identifiers(conn))
@@ -114,7 +114,7 @@ fn identifiers<S: Alter>(
 
 // All live statements, by agent, filing and place.
 fn placed<S: Alter>(conn: &mut Connection<S>, alloc: Global) -> Result<Vec<Placed>, ReadError>
-    ensures { Reads S.Store conn.old conn.new result (λ r statements.
+    ensures { ReadsIn S.Store conn.old conn.new result (λ r statements.
         statements.items ≡ placed r.members) }
 {
     let statements = statements(conn, alloc)?;
@@ -131,7 +131,7 @@ fn placed<S: Alter>(conn: &mut Connection<S>, alloc: Global) -> Result<Vec<Place
 /// Whether there are more live statements than so many. Only a connection that is open answers, if
 /// its disk has returned what was written.
 pub fn has_more<S: Alter>(conn: &mut Connection<S>, most: u32) -> Result<bool, ReadError>
-    ensures reads { Reads S.Store conn.old conn.new result (λ r more.
+    ensures reads { ReadsIn S.Store conn.old conn.new result (λ r more.
         more ≡ not (nat_le (length (placed r.members)) most)) }
     ensures up { IfOk result (λ _. IsUp (state S.Store conn.new)) }
 {
@@ -143,7 +143,7 @@ pub(crate) fn members<S: Alter>(
     conn: &mut Connection<S>,
     alloc: Global,
 ) -> Result<Vec<Member>, ReadError>
-    ensures { Reads S.Store conn.old conn.new result (λ r members.
+    ensures { ReadsIn S.Store conn.old conn.new result (λ r members.
         members.items ≡ without_files r.members) }
 {
     let agents = agents(conn, alloc)?;
@@ -159,7 +159,7 @@ pub(crate) fn members<S: Alter>(
 
 // The register, each filing without its file.
 fn whole<S: Alter>(conn: &mut Connection<S>, alloc: Global) -> Result<WholeRegister, ReadError>
-    ensures reads { Reads S.Store conn.old conn.new result (λ r whole.
+    ensures reads { ReadsIn S.Store conn.old conn.new result (λ r whole.
         (whole.day ≡ r.day) × (whole.registrar ≡ r.registrar) ×
         (whole.members.items ≡ without_files r.members)) }
     ensures up { IfOk result (λ _. IsUp (state S.Store conn.new)) }
@@ -180,7 +180,7 @@ pub fn read_whole<S: Alter>(
     alloc: Global,
     most: u32,
 ) -> Result<Option<WholeRegister>, ReadError>
-    ensures reads { Reads S.Store conn.old conn.new result (λ r whole.
+    ensures reads { ReadsIn S.Store conn.old conn.new result (λ r whole.
         MatchOption whole (most < length (placed r.members))
         (λ whole. (whole.day ≡ r.day) × (whole.registrar ≡ r.registrar) ×
         (whole.members.items ≡ without_files r.members))) }

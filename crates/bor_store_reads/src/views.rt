@@ -3,7 +3,7 @@
 ghost use Rattle.std.specs.Prelude.{◌≡◌};
 ghost use Rattle.bor_register.specs.Publication.{published};
 ghost use Rattle.bor_register.specs.Rows.{visible};
-ghost use Rattle.bor_store_reads.specs.Answering.{Reads};
+ghost use Rattle.bor_store_reads.specs.Answering.{ReadsIn};
 
 use crate::fault::ReadError;
 use crate::register::read_day;
@@ -23,7 +23,7 @@ pub fn read_visible<S: Alter>(
     alloc: Global,
     viewer: &AgentName,
 ) -> Result<Vec<Row>, ReadError>
-    ensures { Reads S.Store conn.old conn.new result (λ r rows.
+    ensures { ReadsIn S.Store conn.old conn.new result (λ r rows.
         rows.items ≡ visible viewer.now r.day r.members) }
 {
     let day = read_day(conn, alloc)?;
@@ -38,7 +38,7 @@ pub fn read_published<S: Alter>(
     conn: &mut Connection<S>,
     alloc: Global,
 ) -> Result<Vec<Outward>, ReadError>
-    ensures { Reads S.Store conn.old conn.new result (λ r outwards.
+    ensures { ReadsIn S.Store conn.old conn.new result (λ r outwards.
         outwards.items ≡ published r.day r.members) }
 {
     let day = read_day(conn, alloc)?;

@@ -23,7 +23,7 @@ use Rattle.sqlite_resolve.specs.Compile.{first, index_defined_by}
 use Rattle.sqlite_resolve.specs.declared.compiled.Compiled.{Compiled}
 use Rattle.sqlite_schema.specs.Names.{same_name, table_named}
 use Rattle.sqlite_schema.specs.declared.schema.Index.{Index}
-use Rattle.bor_store_sql.specs.Beside.{Adds, AddsIndexes, HasIndex, HasTable, IsIndexMade, IsMade, IsOfKey, MakesOnly, Spares, blank, counts_rows}
+use Rattle.bor_store_sql.specs.Beside.{Adds, AddsIndexes, HasIndex, HasTable, IsIndexMade, IsTableMade, IsOfKey, MakesOnly, Spares, blank, counts_rows}
 use Rattle.bor_store_sql.proofs.Creating.{none_kept}
 use Rattle.bor_store_sql.proofs.AnySchema.{IsIndexOf, Makes, Means, Reads, indexing_means, making_means}
 use Rattle.bor_store_sql.proofs.Inserts.{same_value, went}
@@ -84,7 +84,7 @@ no_index_past P schema i has low = absurd (omega (arith, low, index_below schema
 
 none_made : (tables : List Table) (indexes : List (Table × Index)) (schema : Schema) → MakesOnly tables indexes schema schema
 none_made tables indexes schema = record {
-  tables_are = all_from (λ (t : Table). next_tree schema ≤ t.tree → IsMade tables schema t) schema.tables (no_table_past (IsMade tables schema) schema);
+  tables_are = all_from (λ (t : Table). next_tree schema ≤ t.tree → IsTableMade tables schema t) schema.tables (no_table_past (IsTableMade tables schema) schema);
   indexes_are = all_from (λ (i : Index). next_tree schema ≤ i.tree → IsIndexMade indexes schema schema i) schema.indexes (no_index_past (IsIndexMade indexes schema schema) schema);
   counts = refl;
 }
@@ -109,13 +109,13 @@ of_key table tree i h =
     (r.0, r.1, r.2, subst (λ k. i ≡ automatic table k r.1 i.tree) same r.3)
 
 -- a table that is made is the only one, and its indexes are those of its keys
-module _ (tables : List Table) (old : Schema) (table : Table) (uncounted : table.is_counted ≡ false) (are : (t : Table) → t ≡ record table { tree = t.tree } → IsMade tables old t) where
+module _ (tables : List Table) (old : Schema) (table : Table) (uncounted : table.is_counted ≡ false) (are : (t : Table) → t ≡ record table { tree = t.tree } → IsTableMade tables old t) where
   abbrev it : Table
   it = record table { tree = next_tree old }
 
-  table_only : (t : Table) → Has (old.tables ++ it ∷ []) t → next_tree old ≤ t.tree → IsMade tables old t
+  table_only : (t : Table) → Has (old.tables ++ it ∷ []) t → next_tree old ≤ t.tree → IsTableMade tables old t
   table_only t has low = elim (has_either old.tables (it ∷ []) t has) [
-    | inl h ↦ no_table_past (IsMade tables old) old t h low
+    | inl h ↦ no_table_past (IsTableMade tables old) old t h low
     | inr (inl e) ↦ are t (e ∙ ap (λ n. record table { tree = n }) (sym (ap (λ (t : Table). t.tree) e)))
     | inr (inr h) ↦ absurd h
   ]
@@ -128,7 +128,7 @@ module _ (tables : List Table) (old : Schema) (table : Table) (uncounted : table
 
   created_only : MakesOnly tables [] old (created old table)
   created_only = record {
-    tables_are = all_from (λ (t : Table). next_tree old ≤ t.tree → IsMade tables old t) (created old table).tables table_only;
+    tables_are = all_from (λ (t : Table). next_tree old ≤ t.tree → IsTableMade tables old t) (created old table).tables table_only;
     indexes_are = all_from (λ (i : Index). next_tree old ≤ i.tree → IsIndexMade [] old (created old table) i) (created old table).indexes keys_only;
     counts = counts_still old.tables it uncounted;
   }
@@ -238,7 +238,7 @@ module _ (old : Schema) (table on : Table) (at : ℕ) (named : table_named old t
 
   indexed_only : MakesOnly [] ((table, index) ∷ []) old (indexed old on made)
   indexed_only = record {
-    tables_are = all_from (λ (t : Table). next_tree old ≤ t.tree → IsMade [] old t) old.tables (no_table_past (IsMade [] old) old);
+    tables_are = all_from (λ (t : Table). next_tree old ≤ t.tree → IsTableMade [] old t) old.tables (no_table_past (IsTableMade [] old) old);
     indexes_are = all_from (λ (i : Index). next_tree old ≤ i.tree → IsIndexMade ((table, index) ∷ []) old (indexed old on made) i) (indexed old on made).indexes index_only;
     counts = refl;
   }

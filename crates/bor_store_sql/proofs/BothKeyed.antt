@@ -13,12 +13,12 @@ use Rattle.bor_terms.specs.Texts.{is_same}
 use Rattle.bor_store_sql.specs.Texts.Queries.{identifiers_of_statement_query, identifiers_of_statement_text, interests_of_statement_query, interests_of_statement_text, rising, statements_of_filing_query, statements_of_filing_text}
 use Rattle.bor_store_sql.proofs.OnTexts.QueryMeanings.{identifiers_of_statement_both, interests_of_statement_both, statements_of_filing_both}
 use Rattle.bor_store_sql.specs.Rows.Encoding.{identifier_columns, interest_columns, statement_columns}
-use Rattle.bor_store_sql.specs.Rows.Placed.{bare, identifier_rows, identifiers_of, interest_rows, interests_of, placed, same_place}
+use Rattle.bor_store_sql.specs.Rows.Placed.{bare, identifier_rows, identifiers_listed, interest_rows, interests_listed, placed, same_place}
 use Rattle.bor_store_sql.specs.declared.rows.places.At.{At}
 use Rattle.bor_store_sql.specs.declared.rows.typed.IdentifierRow.{IdentifierRow}
 use Rattle.bor_store_sql.specs.declared.rows.typed.InterestRow.{InterestRow}
 use Rattle.bor_store_sql.specs.declared.rows.typed.Placed.{Placed}
-use Rattle.bor_store_sql.specs.Found.{Asked, FindsRows}
+use Rattle.bor_store_sql.specs.Found.{AnswersQuery, FindsRows}
 use Rattle.bor_store_sql.specs.Selected.{identifiers_at, in_filing, interests_at, placed_of}
 use Rattle.bor_store_sql.specs.Shown.{ShowsLists}
 use Rattle.bor_store_sql.proofs.BothReads.{answered, finds_both, lists_now}
@@ -54,7 +54,7 @@ module _ (r : Register) (old new : State) (shows : ShowsLists r old) (rows : Lis
       (flat_map (λ q. map interest_columns (interest_rows q)) (placed r.members)) rows (sym (map-flat_map interest_columns interest_rows (placed r.members))) (lists_now r old new shows rows h.0).interests (λ id x. refl) interest_shown
       (answered r old new shows rows h.0 interests_of_statement_text (place_params at) interests_of_statement_query _ interests_of_statement_both h.1) IsInterestBefore (λ a b lt. lt)
       (ascending-filter IsInterestBefore p (flat_map interest_rows (placed r.members)) (interest_rows_rise r.members shows.stored.ordered shows.stored.numbered))
-      ∙ ap (map interest_columns) (rows_at (λ (i : InterestRow). i.at) (λ a. same_place a at) interest_rows (λ q. interests_stand q.at 1 (interests_of q.statement.details)) (placed r.members))
+      ∙ ap (map interest_columns) (rows_at (λ (i : InterestRow). i.at) (λ a. same_place a at) interest_rows (λ q. interests_stand q.at 1 (interests_listed q.statement.details)) (placed r.members))
 
   identifiers_of_statement_found : (at : At) → Shows identifiers_of_statement_text (place_params at) old new rows → rows ≡ map identifier_columns (identifiers_at at r.members)
   identifiers_of_statement_found at h =
@@ -65,23 +65,23 @@ module _ (r : Register) (old new : State) (shows : ShowsLists r old) (rows : Lis
       (flat_map (λ q. map identifier_columns (identifier_rows q)) (placed r.members)) rows (sym (map-flat_map identifier_columns identifier_rows (placed r.members))) (lists_now r old new shows rows h.0).identifiers (λ id x. refl) (λ i. refl)
       (answered r old new shows rows h.0 identifiers_of_statement_text (place_params at) identifiers_of_statement_query _ identifiers_of_statement_both h.1) IsIdentifierBefore (λ a b lt. lt)
       (ascending-filter IsIdentifierBefore p (flat_map identifier_rows (placed r.members)) (identifier_rows_rise r.members shows.stored.ordered shows.stored.numbered))
-      ∙ ap (map identifier_columns) (rows_at (λ (i : IdentifierRow). i.at) (λ a. same_place a at) identifier_rows (λ q. identifiers_stand q.at 1 (identifiers_of q.statement.details)) (placed r.members))
+      ∙ ap (map identifier_columns) (rows_at (λ (i : IdentifierRow). i.at) (λ a. same_place a at) identifier_rows (λ q. identifiers_stand q.at 1 (identifiers_listed q.statement.details)) (placed r.members))
 
 -- ---- each finds what it is said to find
 
-pub statements_of_filing_finds : (agent : List ℕ) (number : ℕ) (old new : State) (result : Result (Vec Row Global) Error) → Asked statements_of_filing_text (Text agent ∷ Int (pos number) ∷ []) old new result
+pub statements_of_filing_finds : (agent : List ℕ) (number : ℕ) (old new : State) (result : Result (Vec Row Global) Error) → AnswersQuery statements_of_filing_text (Text agent ∷ Int (pos number) ∷ []) old new result
     → FindsRows ShowsLists old new result (λ r. map (λ p. statement_columns (bare p)) (in_filing number (placed_of agent r)))
 statements_of_filing_finds agent number old new result asked =
     finds_both statements_of_filing_text (Text agent ∷ Int (pos number) ∷ []) (Text agent ∷ Int (pos number) ∷ []) (λ r. map (λ p. statement_columns (bare p)) (in_filing number (placed_of agent r))) old new result asked refl
     (λ r rows shows h. statements_of_filing_found r old new shows rows agent number h)
 
-pub interests_of_statement_finds : (agent : List ℕ) (number place : ℕ) (old new : State) (result : Result (Vec Row Global) Error) → Asked interests_of_statement_text (Text agent ∷ Int (pos number) ∷ Int (pos place) ∷ []) old new result
+pub interests_of_statement_finds : (agent : List ℕ) (number place : ℕ) (old new : State) (result : Result (Vec Row Global) Error) → AnswersQuery interests_of_statement_text (Text agent ∷ Int (pos number) ∷ Int (pos place) ∷ []) old new result
     → FindsRows ShowsLists old new result (λ r. map interest_columns (interests_at (record { agent = agent; filing = number; place = place }) r.members))
 interests_of_statement_finds agent number place old new result asked =
     let at : At = record { agent = agent; filing = number; place = place } in
     finds_both interests_of_statement_text (place_params at) (place_params at) (λ r. map interest_columns (interests_at at r.members)) old new result asked refl (λ r rows shows h. interests_of_statement_found r old new shows rows at h)
 
-pub identifiers_of_statement_finds : (agent : List ℕ) (number place : ℕ) (old new : State) (result : Result (Vec Row Global) Error) → Asked identifiers_of_statement_text (Text agent ∷ Int (pos number) ∷ Int (pos place) ∷ []) old new result
+pub identifiers_of_statement_finds : (agent : List ℕ) (number place : ℕ) (old new : State) (result : Result (Vec Row Global) Error) → AnswersQuery identifiers_of_statement_text (Text agent ∷ Int (pos number) ∷ Int (pos place) ∷ []) old new result
     → FindsRows ShowsLists old new result (λ r. map identifier_columns (identifiers_at (record { agent = agent; filing = number; place = place }) r.members))
 identifiers_of_statement_finds agent number place old new result asked =
     let at : At = record { agent = agent; filing = number; place = place } in

@@ -18,7 +18,7 @@ use Rattle.bor_store_sql.specs.Texts.Queries.{all_filings_query, all_filings_tex
 use Rattle.bor_store_sql.proofs.OnTexts.QueryMeanings.{all_filings_both, file_by_number_both}
 use Rattle.bor_store_sql.specs.Rows.Encoding.{contents, filing_rows, line_columns, shown_columns}
 use Rattle.bor_store_sql.specs.Rows.Placed.{filing_lines, filing_row}
-use Rattle.bor_store_sql.specs.Found.{Asked, FindsRows}
+use Rattle.bor_store_sql.specs.Found.{AnswersQuery, FindsRows}
 use Rattle.bor_store_sql.specs.Selected.{numbered}
 use Rattle.bor_store_sql.specs.Shown.{HasLists, IsOfVersion, ShowsFirst, ShowsIn, ShowsLists}
 use Rattle.bor_store_sql.proofs.Finding.{Shows}
@@ -59,7 +59,7 @@ of_now r s shows = record {
 pub finds_now : {old new : State} {result : Result (Vec Row Global) Error} {rows_of : Register → List Row} → FindsRows ShowsLists old new result rows_of → FindsRows ShowsIn old new result rows_of
 finds_now found = record { reads = found.reads; settled = found.settled; up = found.up; rows = λ clean r shows. found.rows clean r (of_now r _ shows) }
 
-pub finds_both : (text : List ℕ) (params given : Row) (rows_of : Register → List Row) (old new : State) (result : Result (Vec Row Global) Error) → Asked text given old new result → given ≡ params
+pub finds_both : (text : List ℕ) (params given : Row) (rows_of : Register → List Row) (old new : State) (result : Result (Vec Row Global) Error) → AnswersQuery text given old new result → given ≡ params
     → ((r : Register) (rows : List Row) → ShowsLists r old → Shows text params old new rows → rows ≡ rows_of r) → FindsRows ShowsLists old new result rows_of
 finds_both text params given rows_of old new result asked is found = record {
   reads = asked.reads;
@@ -101,10 +101,10 @@ module _ (r : Register) (old new : State) (shows : ShowsLists r old) (rows : Lis
 
 -- ---- each finds what it is said to find
 
-pub all_filings_finds : (given : Row) (old new : State) (result : Result (Vec Row Global) Error) → Asked all_filings_text given old new result → given ≡ [] → FindsRows ShowsLists old new result (λ r. map line_columns (filing_lines r.members))
+pub all_filings_finds : (given : Row) (old new : State) (result : Result (Vec Row Global) Error) → AnswersQuery all_filings_text given old new result → given ≡ [] → FindsRows ShowsLists old new result (λ r. map line_columns (filing_lines r.members))
 all_filings_finds given old new result asked is = finds_both all_filings_text [] given (λ r. map line_columns (filing_lines r.members)) old new result asked is (λ r rows shows h. all_filings_found r old new shows rows h)
 
-pub file_by_number_finds : (agent : List ℕ) (number : ℕ) (old new : State) (result : Result (Vec Row Global) Error) → Asked file_by_number_text (Text agent ∷ Int (pos number) ∷ []) old new result
+pub file_by_number_finds : (agent : List ℕ) (number : ℕ) (old new : State) (result : Result (Vec Row Global) Error) → AnswersQuery file_by_number_text (Text agent ∷ Int (pos number) ∷ []) old new result
     → FindsRows ShowsLists old new result (λ r. map (λ f. shown_columns (filing_shown f)) (numbered number (filings_of agent r.members)))
 file_by_number_finds agent number old new result asked =
     finds_both file_by_number_text (Text agent ∷ Int (pos number) ∷ []) (Text agent ∷ Int (pos number) ∷ []) (λ r. map (λ f. shown_columns (filing_shown f)) (numbered number (filings_of agent r.members))) old new result asked refl

@@ -29,7 +29,7 @@ use Rattle.bor_store_sql.specs.Texts.Changes.{insert_register_text, insert_regis
 use Rattle.bor_store_sql.proofs.OnTexts.ChangeMeanings.{insert_register_is}
 use Rattle.bor_store_sql.specs.Rows.Encoding.{contents, register_columns, tables_version}
 use Rattle.bor_store_sql.specs.Rows.Stored.{IsStored}
-use Rattle.bor_store_sql.specs.Blank.{IsBlank, LeadsTo, no_contents}
+use Rattle.bor_store_sql.specs.Blank.{IsBlank, LeadsBetween, no_contents}
 use Rattle.bor_store_sql.specs.Kept.{Keeps}
 use Rattle.bor_store_sql.specs.Moving.{MakesPeriod}
 use Rattle.bor_store_sql.specs.Ran.{MovesTo}
@@ -107,11 +107,11 @@ blank_has db blank = record {
 }
 
 -- one after the other
-pub both_lead : (first between last : Database → Type 0) (old mid new : State) (result : Result (Unit {0}) Error) → LeadsTo first between old mid (Ok (tt {0})) → LeadsTo between last mid new result → LeadsTo first last old new result
+pub both_lead : (first between last : Database → Type 0) (old mid new : State) (result : Result (Unit {0}) Error) → LeadsBetween first between old mid (Ok (tt {0})) → LeadsBetween between last mid new result → LeadsBetween first last old new result
 both_lead first between last old mid new result one two = both_move _ _ _ old mid new result (λ to_between to_last is. to_last (to_between is)) one two
 
 -- the table period, beside six without rows
-pub period_leads : (old new : State) (result : Result (Unit {0}) Error) → MovesTo MakesPeriod old new result → LeadsTo (IsBlank first_schema) (Has no_contents) old new result
+pub period_leads : (old new : State) (result : Result (Unit {0}) Error) → MovesTo MakesPeriod old new result → LeadsBetween (IsBlank first_schema) (Has no_contents) old new result
 period_leads old new result one = in_other_words MakesPeriod _ old new result (λ makes blank. makes no_contents (blank_has old.now blank)) one
 
 -- what the INSERT of the register's row is given

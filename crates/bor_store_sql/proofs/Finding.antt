@@ -14,7 +14,7 @@ use Rattle.bor_store_sql.specs.Texts.Queries.{shows_rows}
 use Rattle.bor_store_sql.specs.Texts.Meanings.{Asks}
 use Rattle.bor_store_sql.specs.Rows.Encoding.{contents}
 use Rattle.bor_store_sql.specs.Shown.{Has, ShowsIn}
-use Rattle.bor_store_sql.specs.Found.{Asked, FindsRows, ReadsOnly}
+use Rattle.bor_store_sql.specs.Found.{AnswersQuery, FindsRows, ReadsOnly}
 
 -- what a text shows of the last commit
 abbrev pub Shows : List ℕ → Row → State → State → List Row → Type 0
@@ -31,7 +31,7 @@ known (Ok x) p = p
 known (Err e) p = tt
 
 -- what is asked is found, if the query is given what it is said to be given
-pub finds : (text : List ℕ) (params given : Row) (rows_of : Register → List Row) (old new : State) (result : Result (Vec Row Global) Error) → Asked text given old new result → given ≡ params
+pub finds : (text : List ℕ) (params given : Row) (rows_of : Register → List Row) (old new : State) (result : Result (Vec Row Global) Error) → AnswersQuery text given old new result → given ≡ params
     → ((r : Register) (rows : List Row) → ShowsIn r old → Shows text params old new rows → rows ≡ rows_of r) → FindsRows ShowsIn old new result rows_of
 finds text params given rows_of old new result asked is found = record {
   reads = asked.reads;

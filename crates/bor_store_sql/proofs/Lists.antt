@@ -11,7 +11,7 @@ use Rattle.bods_read.specs.declared.interest.Interest.{Interest}
 use Rattle.bor_store_sql.specs.declared.rows.places.At.{At}
 use Rattle.bor_store_sql.specs.declared.rows.typed.InterestRow.{InterestRow}
 use Rattle.bor_store_sql.specs.declared.rows.typed.Placed.{Placed}
-use Rattle.bor_store_sql.specs.Rows.Placed.{bare, interests_of, identifiers_of, interest_rows, identifier_rows, interests_from, identifiers_from, if_said, period_of, placed_from}
+use Rattle.bor_store_sql.specs.Rows.Placed.{bare, interests_listed, identifiers_listed, interest_rows, identifier_rows, interests_from, identifiers_from, if_said, period_of, placed_from}
 use Rattle.bor_store_sql.specs.Rows.Encoding.{Contents, statement_columns, interest_columns, identifier_columns, period_columns}
 use Rattle.bor_store_sql.specs.Changing.{days_of, with_period_row, with_period_rows, with_interest_rows, with_identifier_rows, with_one_placed, with_placed}
 use Rattle.bor_store_sql.specs.Rows.Stored.{IsCounted}
@@ -78,7 +78,7 @@ placed_added agent filing i place xs x lt is e t =
     ∙ ap (λ l. record t { statements = rows; interests = t.interests ++ flat_map interests_at after; identifiers = t.identifiers ++ flat_map identifiers_at after; periods = l }) (flat_parts periods_at t.periods before after p more)
 
 -- a statement whose lists are inserted is counted
-pub counted : {E : Type 0} (s : Statement) (ids : List Identifier) (is : List Interest) (result : Result (Unit {0}) E) → ids ≡ identifiers_of s.details → is ≡ interests_of s.details → length ids < 2 ^ 32
+pub counted : {E : Type 0} (s : Statement) (ids : List Identifier) (is : List Interest) (result : Result (Unit {0}) E) → ids ≡ identifiers_listed s.details → is ≡ interests_listed s.details → length ids < 2 ^ 32
     → IfOk result (λ x. length is < 2 ^ 32) → IfOk result (λ x. IsCounted s)
 counted s ids is (Err e) same_ids same_is few_ids few = tt
 counted s ids is (Ok x) same_ids same_is few_ids few = record { interests = subst (λ l. length l < 2 ^ 32) same_is few; identifiers = subst (λ l. length l < 2 ^ 32) same_ids few_ids }

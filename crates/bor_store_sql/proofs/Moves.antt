@@ -10,7 +10,7 @@ use Rattle.bor_store_sql.specs.Changing.{Any}
 use Rattle.bor_store_sql.specs.Moving.{PutsPeriods}
 use Rattle.bor_store_sql.specs.Ran.{LeavesNoMore, Moved, MovesTo, Ran, RunsInside, RanOpenIn}
 use Rattle.bor_store_sql.specs.Rows.Encoding.{Contents, period_columns}
-use Rattle.bor_store_sql.specs.Shown.{Changes, Has, StepsTo}
+use Rattle.bor_store_sql.specs.Shown.{ChangesContents, Has, StepsTo}
 use Rattle.bor_store_sql.specs.declared.rows.typed.PeriodRow.{PeriodRow}
 
 -- ---- one text
@@ -174,23 +174,23 @@ first_open old mid new (Err e) first sound clean inside = tt
 -- ---- changes of rows
 
 -- two changes are one
-pub chained : (fits : Contents → Type 0) (f g h : Contents → Contents) (old mid new : Database) → ((t : Contents) → g (f t) ≡ h t) → Changes fits f old mid → Changes Any g mid new → Changes fits h old new
+pub chained : (fits : Contents → Type 0) (f g h : Contents → Contents) (old mid new : Database) → ((t : Contents) → g (f t) ≡ h t) → ChangesContents fits f old mid → ChangesContents Any g mid new → ChangesContents fits h old new
 chained fits f g h old mid new same one two t has fit = subst (λ x. Has x new) (same t) (two (f t) (one t has fit) (tt {0}))
 
 -- one change after the other
 pub both_step : (fits : Contents → Type 0) (f g : Contents → Contents) (old mid new : State) (result : Result (Unit {0}) Error) → StepsTo fits f old mid (Ok (tt {0})) → StepsTo Any g mid new result → StepsTo fits (λ t. g (f t)) old new result
-both_step fits f g old mid new result one two = both_move (Changes fits f) (Changes Any g) (Changes fits (λ t. g (f t))) old mid new result (λ to_f to_g t has fit. to_g (f t) (to_f t has fit) (tt {0})) one two
+both_step fits f g old mid new result one two = both_move (ChangesContents fits f) (ChangesContents Any g) (ChangesContents fits (λ t. g (f t))) old mid new result (λ to_f to_g t has fit. to_g (f t) (to_f t has fit) (tt {0})) one two
 
 -- the same in other words
 pub one_more : (f g h : Contents → Contents) (old mid new : State) → ((t : Contents) → g (f t) ≡ h t) → StepsTo Any f old mid (Ok (tt {0})) → StepsTo Any g mid new (Ok (tt {0})) → StepsTo Any h old new (Ok (tt {0}))
-one_more f g h old mid new same one two = both_move (Changes Any f) (Changes Any g) (Changes Any h) old mid new (Ok (tt {0})) (chained Any f g h old.now mid.now new.now same) one two
+one_more f g h old mid new same one two = both_move (ChangesContents Any f) (ChangesContents Any g) (ChangesContents Any h) old mid new (Ok (tt {0})) (chained Any f g h old.now mid.now new.now same) one two
 
 -- nothing is a change that leaves the rows
-pub left_so : (h : Contents → Contents) (db : Database) → ((t : Contents) → t ≡ h t) → Changes Any h db db
+pub left_so : (h : Contents → Contents) (db : Database) → ((t : Contents) → t ≡ h t) → ChangesContents Any h db db
 left_so h db same t has fit = subst (λ x. Has x db) (same t) has
 
 -- a change in other words
-pub said_so : (f h : Contents → Contents) (old new : Database) → ((t : Contents) → f t ≡ h t) → Changes Any f old new → Changes Any h old new
+pub said_so : (f h : Contents → Contents) (old new : Database) → ((t : Contents) → f t ≡ h t) → ChangesContents Any f old new → ChangesContents Any h old new
 said_so f h old new same one t has fit = subst (λ x. Has x new) (same t) (one t has fit)
 
 -- ---- periods, one after the other

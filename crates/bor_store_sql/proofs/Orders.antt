@@ -25,7 +25,7 @@ use Rattle.bor_store_sql.specs.declared.rows.places.At.{At}
 use Rattle.bor_store_sql.specs.declared.rows.typed.Placed.{Placed}
 use Rattle.bor_store_sql.specs.declared.rows.typed.InterestRow.{InterestRow}
 use Rattle.bor_store_sql.specs.declared.rows.typed.IdentifierRow.{IdentifierRow}
-use Rattle.bor_store_sql.specs.Rows.Placed.{placed_by, placed, interest_rows, identifier_rows, interests_from, identifiers_from, interests_of, identifiers_of}
+use Rattle.bor_store_sql.specs.Rows.Placed.{placed_by, placed, interest_rows, identifier_rows, interests_from, identifiers_from, interests_listed, identifiers_listed}
 use Rattle.bor_store_sql.specs.Rows.Encoding.{filing_columns, filing_rows}
 use Rattle.bor_store_sql.specs.Rows.Stored.{AllNumbered}
 use Rattle.bor_store_sql.proofs.Rowids.{lower_id}
@@ -173,8 +173,8 @@ across_interests a b n (i ∷ is) js lt = (after_interest a b n 1 (record { at =
 
 pub interest_rows_rise : (ms : List Member) → IsOrdered ms → AllNumbered ms → IsAscending IsInterestBefore (flat_map interest_rows (placed ms))
 interest_rows_rise ms names numbers =
-    lists_rise IsPlacedBefore IsInterestBefore interest_rows (λ p. interests_rise p.at 1 (interests_of p.statement.details))
-    (λ p q lt. across_interests p.at q.at 1 (interests_of p.statement.details) (interests_of q.statement.details) lt) (placed ms) (placed_rise ms names numbers)
+    lists_rise IsPlacedBefore IsInterestBefore interest_rows (λ p. interests_rise p.at 1 (interests_listed p.statement.details))
+    (λ p q lt. across_interests p.at q.at 1 (interests_listed p.statement.details) (interests_listed q.statement.details) lt) (placed ms) (placed_rise ms names numbers)
 
 abbrev pub IsIdentifierBefore : IdentifierRow → IdentifierRow → Type 0
 IsIdentifierBefore i j = IsLowerItem i.at i.item j.at j.item
@@ -197,5 +197,5 @@ across_identifiers a b n (i ∷ is) js lt = (after_identifier a b 1 (record { at
 
 pub identifier_rows_rise : (ms : List Member) → IsOrdered ms → AllNumbered ms → IsAscending IsIdentifierBefore (flat_map identifier_rows (placed ms))
 identifier_rows_rise ms names numbers =
-    lists_rise IsPlacedBefore IsIdentifierBefore identifier_rows (λ p. identifiers_rise p.at 1 (identifiers_of p.statement.details))
-    (λ p q lt. across_identifiers p.at q.at 1 (identifiers_of p.statement.details) (identifiers_of q.statement.details) lt) (placed ms) (placed_rise ms names numbers)
+    lists_rise IsPlacedBefore IsIdentifierBefore identifier_rows (λ p. identifiers_rise p.at 1 (identifiers_listed p.statement.details))
+    (λ p q lt. across_identifiers p.at q.at 1 (identifiers_listed p.statement.details) (identifiers_listed q.statement.details) lt) (placed ms) (placed_rise ms names numbers)

@@ -20,13 +20,13 @@ use Rattle.bor_store_sql.specs.Texts.Meanings.{Asks}
 use Rattle.bor_store_sql.specs.Texts.Queries.{all_periods_query, all_periods_text, file_by_number_text, periods_of_statement_query, periods_of_statement_text, rising, shows_rows, table_query}
 use Rattle.bor_store_sql.proofs.OnTexts.QueryMeanings.{all_periods_is, periods_of_statement_is}
 use Rattle.bor_store_sql.specs.Rows.Encoding.{contents, period_columns}
-use Rattle.bor_store_sql.specs.Rows.Placed.{if_said, interest_rows, interests_of, period_of, period_rows, placed, same_place}
+use Rattle.bor_store_sql.specs.Rows.Placed.{if_said, interest_rows, interests_listed, period_of, period_rows, placed, same_place}
 use Rattle.bor_store_sql.specs.declared.rows.places.At.{At}
 use Rattle.bor_store_sql.specs.declared.rows.typed.InterestRow.{InterestRow}
 use Rattle.bor_store_sql.specs.declared.rows.typed.PeriodRow.{PeriodRow}
 use Rattle.bor_store_sql.specs.declared.rows.typed.Placed.{Placed}
 use Rattle.bor_store_sql.specs.Changing.{days_of, row_passes}
-use Rattle.bor_store_sql.specs.Found.{Asked, FindsRows, IsQuery}
+use Rattle.bor_store_sql.specs.Found.{AnswersQuery, FindsRows, IsQuery}
 use Rattle.bor_store_sql.specs.Selected.{interests_at}
 use Rattle.bor_store_sql.specs.Shown.{ShowsIn}
 use Rattle.bor_store_sql.proofs.Finding.{Shows, answers, finds, has_now}
@@ -119,16 +119,16 @@ module _ (r : Register) (old new : State) (shows : ShowsIn r old) (rows : List R
       (λ i. ap₂ (λ x y. x && y) (text_test i.at.agent at.agent) (ap₂ (λ x y. x && y) (int_test (pos i.at.filing) (pos at.filing) ∙ number_test i.at.filing at.filing) (and-true _ ∙ int_test (pos i.at.place) (pos at.place) ∙ number_test i.at.place at.place)))
       periods_of_statement_is (λ id x. refl) (λ id x. refl) (λ i. refl)
       ∙ ap (map day_columns) (in_turn (λ (i : InterestRow). same_place i.at at) is_said (all_interests r.members)
-      ∙ ap (filter is_said) (rows_at (λ (i : InterestRow). i.at) (λ a. same_place a at) interest_rows (λ p. interests_stand p.at 1 (interests_of p.statement.details)) (placed r.members)))
+      ∙ ap (filter is_said) (rows_at (λ (i : InterestRow). i.at) (λ a. same_place a at) interest_rows (λ p. interests_stand p.at 1 (interests_listed p.statement.details)) (placed r.members)))
       ∙ sym (listed (interests_at at r.members))
 
 -- ---- each finds what it is said to find
 
-pub all_periods_finds : (given : Row) (old new : State) (result : Result (Vec Row Global) Error) → Asked all_periods_text given old new result → given ≡ [] → FindsRows ShowsIn old new result (λ r. map period_columns (flat_map period_rows (flat_map interest_rows (placed r.members))))
+pub all_periods_finds : (given : Row) (old new : State) (result : Result (Vec Row Global) Error) → AnswersQuery all_periods_text given old new result → given ≡ [] → FindsRows ShowsIn old new result (λ r. map period_columns (flat_map period_rows (flat_map interest_rows (placed r.members))))
 all_periods_finds given old new result asked is =
     finds all_periods_text [] given (λ r. map period_columns (flat_map period_rows (flat_map interest_rows (placed r.members)))) old new result asked is (λ r rows shows h. all_periods_found r old new shows rows h)
 
-pub periods_of_statement_finds : (agent : List ℕ) (number place : ℕ) (old new : State) (result : Result (Vec Row Global) Error) → Asked periods_of_statement_text (Text agent ∷ Int (pos number) ∷ Int (pos place) ∷ []) old new result
+pub periods_of_statement_finds : (agent : List ℕ) (number place : ℕ) (old new : State) (result : Result (Vec Row Global) Error) → AnswersQuery periods_of_statement_text (Text agent ∷ Int (pos number) ∷ Int (pos place) ∷ []) old new result
     → FindsRows ShowsIn old new result (λ r. map period_columns (flat_map period_rows (interests_at (record { agent = agent; filing = number; place = place }) r.members)))
 periods_of_statement_finds agent number place old new result asked =
     finds periods_of_statement_text (Text agent ∷ Int (pos number) ∷ Int (pos place) ∷ []) (Text agent ∷ Int (pos number) ∷ Int (pos place) ∷ []) (λ r. map period_columns (flat_map period_rows (interests_at (record { agent = agent; filing = number; place = place }) r.members)))

@@ -16,7 +16,7 @@ use Rattle.sqlite_schema.specs.Names.{same_name}
 use Rattle.sqlite_schema.specs.declared.schema.Index.{Index}
 use Rattle.sqlite_keyed.proofs.ListLemmas.{all-append}
 use Rattle.bor_register.specs.Register.{Register}
-use Rattle.bor_store_sql.specs.Beside.{Adds, AddsIndexes, HasIndex, HasMore, HasIndexes, HasTable, HasTables, HasTheirTables, IsIndexMade, IsMade, IsIndexOver, MakesOnly, SetsUp, SetsUpIn, Spares, details, four_indexes, lists, tables_of}
+use Rattle.bor_store_sql.specs.Beside.{Adds, AddsIndexes, HasIndex, HasMore, HasIndexes, HasTable, HasTables, HasTheirTables, IsIndexMade, IsTableMade, IsIndexOver, MakesOnly, SetsUp, SetsUpIn, Spares, details, four_indexes, lists, tables_of}
 use Rattle.bor_store_sql.specs.Kept.{Keeps}
 use Rattle.bor_store_sql.proofs.Unread.{unread_all}
 use Rattle.sqlite.specs.Order.{Row}
@@ -146,13 +146,13 @@ theirs_still old new spares (i ∷ indexes) has = ((has.0.0, has.0.1, table_stil
 -- ---- nothing else
 
 module _ (old mid new : Database) (one : Spares old mid) (two : Spares mid new) (tables others : List Table) (indexes further : List (Table × Index)) where
-  table_made : MakesOnly tables indexes old.schema mid.schema → MakesOnly others further mid.schema new.schema → (t : Table) → Has new.schema.tables t → next_tree old.schema ≤ t.tree → IsMade (tables ++ others) old.schema t
+  table_made : MakesOnly tables indexes old.schema mid.schema → MakesOnly others further mid.schema new.schema → (t : Table) → Has new.schema.tables t → next_tree old.schema ≤ t.tree → IsTableMade (tables ++ others) old.schema t
   table_made first second t has low = elim (has_either mid.schema.tables two.tables.0 t (subst (λ xs. Has xs t) two.tables.1 has)) [
-    | inl h ↦ elim (all_has (λ (t : Table). next_tree old.schema ≤ t.tree → IsMade tables old.schema t) mid.schema.tables t first.tables_are h low) [
+    | inl h ↦ elim (all_has (λ (t : Table). next_tree old.schema ≤ t.tree → IsTableMade tables old.schema t) mid.schema.tables t first.tables_are h low) [
       | inl is ↦ inl (is.0, has_left tables others is.0 is.1, is.2)
       | inr is ↦ inr is
     ]
-    | inr h ↦ elim (all_has (λ (t : Table). next_tree mid.schema ≤ t.tree → IsMade others mid.schema t) new.schema.tables t second.tables_are has (all_has (λ (t : Table). next_tree mid.schema ≤ t.tree) two.tables.0 t two.tables.2 h)) [
+    | inr h ↦ elim (all_has (λ (t : Table). next_tree mid.schema ≤ t.tree → IsTableMade others mid.schema t) new.schema.tables t second.tables_are has (all_has (λ (t : Table). next_tree mid.schema ≤ t.tree) two.tables.0 t two.tables.2 h)) [
       | inl is ↦ inl (is.0, has_right tables others is.0 is.1, is.2)
       | inr is ↦ inr (sym first.counts ∙ is.0, is.1)
     ]
@@ -181,7 +181,7 @@ module _ (old mid new : Database) (one : Spares old mid) (two : Spares mid new) 
 
   pub only_all : MakesOnly tables indexes old.schema mid.schema → MakesOnly others further mid.schema new.schema → MakesOnly (tables ++ others) (indexes ++ further) old.schema new.schema
   only_all first second = record {
-    tables_are = all_from (λ (t : Table). next_tree old.schema ≤ t.tree → IsMade (tables ++ others) old.schema t) new.schema.tables (table_made first second);
+    tables_are = all_from (λ (t : Table). next_tree old.schema ≤ t.tree → IsTableMade (tables ++ others) old.schema t) new.schema.tables (table_made first second);
     indexes_are = all_from (λ (i : Index). next_tree old.schema ≤ i.tree → IsIndexMade (indexes ++ further) old.schema new.schema i) new.schema.indexes (index_made first second);
     counts = second.counts ∙ first.counts;
   }

@@ -20,7 +20,7 @@ use Rattle.sqlite_schema.specs.declared.schema.Index.{Index}
 use Rattle.sqlite_schema.specs.declared.schema.View.{View as Stored}
 use Rattle.sqlite_trees.specs.Objects.{catalog_tree, number_in, row_for}
 use Rattle.sqlite_trees.specs.Tree.{has_rowid, rowid}
-use Rattle.bor_store_sql.specs.Beside.{IsUnread, Spares, SparesUnread}
+use Rattle.bor_store_sql.specs.Beside.{IsUnreadTree, Spares, SparesUnread}
 
 -- ---- at most one
 
@@ -126,7 +126,7 @@ module _ (db : Database) (sound : IsDatabase db) (tree : ℕ) (no_table : AllByR
 
 -- ---- from one statement to the next
 
-still_unread : (old new : Database) → IsDatabase old → IsDatabase new → Spares old new → KeepsForeign (old.trees catalog_tree) (new.trees catalog_tree) → (tree : ℕ) → IsUnread old tree → IsUnread new tree
+still_unread : (old new : Database) → IsDatabase old → IsDatabase new → Spares old new → KeepsForeign (old.trees catalog_tree) (new.trees catalog_tree) → (tree : ℕ) → IsUnreadTree old tree → IsUnreadTree new tree
 still_unread old new sound sound_new spares listed tree is =
     let row = row_for (old.trees catalog_tree) tree in
     let there = row_there old sound tree is.no_table is.no_index is.frozen in

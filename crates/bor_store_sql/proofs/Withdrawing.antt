@@ -16,7 +16,7 @@ use Rattle.bor_store_sql.specs.Texts.Changes.{mark_withdrawn_text, mark_withdraw
 use Rattle.bor_store_sql.proofs.OnTexts.ChangeMeanings.{mark_withdrawn_is, delete_identifiers_is, delete_interests_is, delete_periods_is, delete_statements_is}
 use Rattle.bor_store_sql.specs.Rows.Encoding.{Contents}
 use Rattle.bor_store_sql.specs.Ran.{Ran}
-use Rattle.bor_store_sql.specs.Shown.{Changes, Has, StepsTo}
+use Rattle.bor_store_sql.specs.Shown.{ChangesContents, Has, StepsTo}
 use Rattle.bor_store_sql.specs.Changing.{Any, is_of_filing, marked, with_mark, IsOnce, without_identifiers, without_interests, without_periods, without_statements}
 use Rattle.bor_store_sql.proofs.Inserts.{cast_int}
 use Rattle.bor_store_sql.proofs.Moves.{moves_by}
@@ -92,16 +92,16 @@ module _ (agent : List ℕ) (number : ℕ) (old new : State) (count : ℕ) (t : 
 
 module _ (agent : List ℕ) (number : ℕ) (old new : State) (result : Result (Unit {0}) Error) where
   pub identifiers_gone : Ran delete_identifiers_text (filing_params agent number) old new result → StepsTo Any (without_identifiers agent number) old new result
-  identifiers_gone ran = moves_by (Changes Any (without_identifiers agent number)) delete_identifiers_text (filing_params agent number) (filing_params agent number) old new result ran refl (λ count h t has fit. identifiers_deleted agent number old new count t has h)
+  identifiers_gone ran = moves_by (ChangesContents Any (without_identifiers agent number)) delete_identifiers_text (filing_params agent number) (filing_params agent number) old new result ran refl (λ count h t has fit. identifiers_deleted agent number old new count t has h)
 
   pub periods_gone : Ran delete_periods_text (filing_params agent number) old new result → StepsTo Any (without_periods agent number) old new result
-  periods_gone ran = moves_by (Changes Any (without_periods agent number)) delete_periods_text (filing_params agent number) (filing_params agent number) old new result ran refl (λ count h t has fit. periods_deleted agent number old new count t has h)
+  periods_gone ran = moves_by (ChangesContents Any (without_periods agent number)) delete_periods_text (filing_params agent number) (filing_params agent number) old new result ran refl (λ count h t has fit. periods_deleted agent number old new count t has h)
 
   pub interests_gone : Ran delete_interests_text (filing_params agent number) old new result → StepsTo Any (without_interests agent number) old new result
-  interests_gone ran = moves_by (Changes Any (without_interests agent number)) delete_interests_text (filing_params agent number) (filing_params agent number) old new result ran refl (λ count h t has fit. interests_deleted agent number old new count t has h)
+  interests_gone ran = moves_by (ChangesContents Any (without_interests agent number)) delete_interests_text (filing_params agent number) (filing_params agent number) old new result ran refl (λ count h t has fit. interests_deleted agent number old new count t has h)
 
   pub statements_gone : Ran delete_statements_text (filing_params agent number) old new result → StepsTo Any (without_statements agent number) old new result
-  statements_gone ran = moves_by (Changes Any (without_statements agent number)) delete_statements_text (filing_params agent number) (filing_params agent number) old new result ran refl (λ count h t has fit. statements_deleted agent number old new count t has h)
+  statements_gone ran = moves_by (ChangesContents Any (without_statements agent number)) delete_statements_text (filing_params agent number) (filing_params agent number) old new result ran refl (λ count h t has fit. statements_deleted agent number old new count t has h)
 
   pub mark_made : Ran mark_withdrawn_text (filing_params agent number) old new result → StepsTo (IsOnce agent number) (with_mark agent number) old new result
-  mark_made ran = moves_by (Changes (IsOnce agent number) (with_mark agent number)) mark_withdrawn_text (filing_params agent number) (filing_params agent number) old new result ran refl (λ count h t has fit. filing_marked agent number old new count t has fit h)
+  mark_made ran = moves_by (ChangesContents (IsOnce agent number) (with_mark agent number)) mark_withdrawn_text (filing_params agent number) (filing_params agent number) old new result ran refl (λ count h t has fit. filing_marked agent number old new count t has fit h)

@@ -25,7 +25,7 @@ use Rattle.bods_read.specs.declared.details.Identifier.{Identifier}
 use Rattle.bods_read.specs.declared.interest.Interest.{Interest}
 use Rattle.bor_store_sql.specs.declared.rows.places.At.{At}
 use Rattle.bor_store_sql.specs.declared.rows.typed.InterestRow.{InterestRow}
-use Rattle.bor_store_sql.specs.Rows.Placed.{bare, placed_from, placed_by, placed, interest_rows, identifier_rows, interests_from, identifiers_from, interests_of, identifiers_of, if_said, period_of}
+use Rattle.bor_store_sql.specs.Rows.Placed.{bare, placed_from, placed_by, placed, interest_rows, identifier_rows, interests_from, identifiers_from, interests_listed, identifiers_listed, if_said, period_of}
 use Rattle.bor_store_sql.specs.Rows.Encoding.{contents, agent_columns, filing_columns, filing_rows, statement_columns, interest_columns, identifier_columns, period_columns}
 use Rattle.bor_register.proofs.Forms.{formed-with_filings, formed-with_withdrawn, formed-filings_of}
 use Rattle.bor_store_sql.specs.Rows.Stored.{AreNumbered, AllNumbered, IsCounted, AreCounted, IsStored}
@@ -299,9 +299,9 @@ module _ (agent : List ℕ) (number : ℕ) where
         filings = subst (λ xs. Keeps xs (db.trees 5)) (filings_marked r.members s.ordered s.numbered) h.filings;
         statements = subst (λ xs. Keeps xs (db.trees 8)) (statement_rows_gone (placed r.members) ∙ ap (map (λ p. statement_columns (bare p))) gone) h.statements;
         interests = subst (λ xs. Keeps xs (db.trees 11))
-            (rows_gone interest_of (λ p b e. interests_whole p.at 1 (interests_of p.statement.details) b e) (placed r.members) ∙ ap (flat_map interest_of) gone) h.interests;
+            (rows_gone interest_of (λ p b e. interests_whole p.at 1 (interests_listed p.statement.details) b e) (placed r.members) ∙ ap (flat_map interest_of) gone) h.interests;
         identifiers = subst (λ xs. Keeps xs (db.trees 13))
-            (rows_gone identifier_of (λ p b e. identifiers_whole p.at 1 (identifiers_of p.statement.details) b e) (placed r.members) ∙ ap (flat_map identifier_of) gone) h.identifiers;
+            (rows_gone identifier_of (λ p b e. identifiers_whole p.at 1 (identifiers_listed p.statement.details) b e) (placed r.members) ∙ ap (flat_map identifier_of) gone) h.identifiers;
         periods = subst (λ xs. Keeps xs (db.trees 19))
-            (rows_gone period_rows_of (λ p b e. periods_whole p.at 1 (interests_of p.statement.details) b e) (placed r.members) ∙ ap (flat_map period_rows_of) gone) h.periods;
+            (rows_gone period_rows_of (λ p b e. periods_whole p.at 1 (interests_listed p.statement.details) b e) (placed r.members) ∙ ap (flat_map period_rows_of) gone) h.periods;
       }

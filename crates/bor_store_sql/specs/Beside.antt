@@ -43,7 +43,7 @@ pub record Spares (old new : Database) : Type 0 where
 
 -- the tree is listed as one that is frozen, since SQL here doesn't read it, and no table, no index
 -- and at most one view has it
-pub record IsUnread (db : Database) (tree : ℕ) : Type 0 where
+pub record IsUnreadTree (db : Database) (tree : ℕ) : Type 0 where
   pub frozen : 4 ≤ number_in (column (row_for (db.trees catalog_tree) tree) 5) % 8
   pub no_table : AllByRecursion (λ t. t.tree ≢ tree) db.schema.tables
   pub no_index : AllByRecursion (λ i. i.tree ≢ tree) db.schema.indexes
@@ -53,7 +53,7 @@ pub record IsUnread (db : Database) (tree : ℕ) : Type 0 where
 -- trees have the same rows, and the user version is the same.
 pub record SparesUnread (old new : Database) : Type 0 where
   pub listed : KeepsForeign (old.trees catalog_tree) (new.trees catalog_tree)
-  pub rows : (tree : ℕ) → IsUnread old tree → new.trees tree ≡ old.trees tree
+  pub rows : (tree : ℕ) → IsUnreadTree old tree → new.trees tree ≡ old.trees tree
   pub version : new.trees version_tree ≡ old.trees version_tree
 
 -- ---- the tables that are made
@@ -110,8 +110,9 @@ IsIndexOver schema table index i =
 
 -- a table that is made is one of these, or the `sqlite_sequence` that SQLite makes where some table
 -- had AUTOINCREMENT
-abbrev pub IsMade : List Table → Schema → Table → Type 0
-IsMade tables old t = IsTableOf tables t ⊎ (IsTrue (counts_rows old) × DefinesTable sequence_text t)
+abbrev pub IsTableMade : List Table → Schema → Table → Type 0
+IsTableMade tables old t =
+    IsTableOf tables t ⊎ (IsTrue (counts_rows old) × DefinesTable sequence_text t)
 
 -- an index that is made is one of these, or that of a key of a table that is made
 abbrev pub IsIndexMade : List (Table × Index) → Schema → Schema → Index → Type 0
@@ -124,7 +125,7 @@ IsIndexMade indexes old new i =
 pub record MakesOnly (tables : List Table) (indexes : List (Table × Index))
     (old new : Schema) : Type 0 where
   pub tables_are : AllByRecursion
-      (λ (t : Table). next_tree old ≤ t.tree → IsMade tables old t) new.tables
+      (λ (t : Table). next_tree old ≤ t.tree → IsTableMade tables old t) new.tables
   pub indexes_are : AllByRecursion
       (λ (i : Index). next_tree old ≤ i.tree → IsIndexMade indexes old new i) new.indexes
   pub counts : counts_rows new ≡ counts_rows old

@@ -16,14 +16,14 @@ pub record IsBlank (schema : Schema) (db : Database) : Type 0 where
   pub empty : AllByRecursion (λ t. db.trees t.tree ≡ []) schema.tables
 
 -- statements of a transaction lead from one kind of database to another
-abbrev pub LeadsTo : (Database → Type 0) → (Database → Type 0) → State → State
+abbrev pub LeadsBetween : (Database → Type 0) → (Database → Type 0) → State → State
     → Result (Unit {0}) Error → Type 0
-LeadsTo before after old new result = MovesTo (λ was is. before was → after is) old new result
+LeadsBetween before after old new result = MovesTo (λ was is. before was → after is) old new result
 
 -- the same of a connection
 abbrev pub Leads : {S : Type 0} → Ghosts S → Held S → Held S → Result (Unit {0}) Error
     → (Database → Type 0) → (Database → Type 0) → Type 0
-Leads g old new result before after = LeadsTo before after (state g old) (state g new) result
+Leads g old new result before after = LeadsBetween before after (state g old) (state g new) result
 
 -- the contents of seven tables without rows
 abbrev pub no_contents : Contents

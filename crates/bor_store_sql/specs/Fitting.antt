@@ -70,9 +70,9 @@ pub record TellsWhether (old new : State) (result : Result Bool Error)
   pub told : IsClean new → (r : Register) → ShowsLists r old → IfOk result (λ b. IsTrue b ↔ Holds r)
 
 -- the same of a connection
-abbrev pub Tells : {S : Type 0} → Ghosts S → Held S → Held S → Result Bool Error
+abbrev pub TellsOf : {S : Type 0} → Ghosts S → Held S → Held S → Result Bool Error
     → (Register → Type 0) → Type 0
-Tells g old new result Holds = TellsWhether (state g old) (state g new) result Holds
+TellsOf g old new result Holds = TellsWhether (state g old) (state g new) result Holds
 
 -- ---- row by row, for clauses of private functions alone
 

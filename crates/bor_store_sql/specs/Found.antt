@@ -29,7 +29,7 @@ pub record ReadsOnly (old new : State) : Type 0 where
 
 -- A query was asked of what the last commit left, or a fault is answered. Rows come from a
 -- connection that has no transaction open and, if its disk has returned what was written, is open.
-pub record Asked (text : List ℕ) (params : Row) (old new : State)
+pub record AnswersQuery (text : List ℕ) (params : Row) (old new : State)
     (result : Result (Vec Row Global) Error) : Type 0 where
   pub reads : ReadsOnly old new
   pub settled : IfOk result (λ rows. old.in_transaction ≡ false)

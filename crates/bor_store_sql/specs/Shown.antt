@@ -89,13 +89,14 @@ Alters g old new result Fits change =
     AltersTo ShowsIn Fits change (state g old) (state g new) result
 
 -- tables that have rows which the change fits have the changed rows
-abbrev pub Changes : (Contents → Type 0) → (Contents → Contents) → Database → Database → Type 0
-Changes fits change old new = (t : Contents) → Has t old → fits t → Has (change t) new
+abbrev pub ChangesContents : (Contents → Type 0) → (Contents → Contents) → Database → Database
+    → Type 0
+ChangesContents fits change old new = (t : Contents) → Has t old → fits t → Has (change t) new
 
 -- statements of a transaction make this change
 abbrev pub StepsTo : (Contents → Type 0) → (Contents → Contents) → State → State
     → Result (Unit {0}) Error → Type 0
-StepsTo fits change old new result = MovesTo (Changes fits change) old new result
+StepsTo fits change old new result = MovesTo (ChangesContents fits change) old new result
 
 -- the same of a connection
 abbrev pub Steps : {S : Type 0} → Ghosts S → Held S → Held S → Result (Unit {0}) Error

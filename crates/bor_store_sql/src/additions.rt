@@ -1,7 +1,7 @@
 //! Adding an agent, and a filing with its statements.
 
 ghost use Rattle.std.specs.Prelude.{◌≡◌, ◌+◌, ◌<◌, ◌^◌, [], ◌∷◌, is_some, ◌||◌, length, IfOk};
-ghost use Rattle.bor_store_sql.specs.Rows.Placed.{bare, period_of, placed_from, interests_from, identifiers_from, interests_of, identifiers_of};
+ghost use Rattle.bor_store_sql.specs.Rows.Placed.{bare, period_of, placed_from, interests_from, identifiers_from, interests_listed, identifiers_listed};
 ghost use Rattle.bor_store_sql.specs.Fitting.{standing};
 ghost use Rattle.bor_store_sql.specs.Ran.{RanOpen};
 ghost use Rattle.bor_store_sql.specs.Shown.{Alters, Steps};
@@ -166,7 +166,7 @@ pub fn next_number(number: u32) -> Result<u32, Error>
 
 /// The interests that a relationship has.
 pub fn interests(details: &Details) -> &[Interest]
-    ensures { result.now ≡ interests_of details.now }
+    ensures { result.now ≡ interests_listed details.now }
 {
     match details {
         Details::Relationship { interests, .. } => interests.as_slice(),
@@ -176,7 +176,7 @@ pub fn interests(details: &Details) -> &[Interest]
 
 /// The identifiers that an entity has.
 pub(crate) fn identifiers(details: &Details) -> &[Identifier]
-    ensures { result.now ≡ identifiers_of details.now }
+    ensures { result.now ≡ identifiers_listed details.now }
 {
     match details {
         Details::Entity { identifiers, .. } => identifiers.as_slice(),

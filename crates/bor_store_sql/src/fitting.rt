@@ -6,7 +6,7 @@ ghost use Rattle.sqlite_value.specs.Value.{owned};
 ghost use Rattle.bor_store_sql.specs.declared.rows.places.At.{At};
 ghost use Rattle.bor_store_sql.specs.Rows.Placed.{interests_from, identifiers_from};
 ghost use Rattle.bor_store_sql.specs.Rows.Encoding.{interest_columns, identifier_columns};
-ghost use Rattle.bor_store_sql.specs.Fitting.{standing, Pairwise, Fit, statements_kept, Tells, IsRowOf, HasListsOf, IsKept};
+ghost use Rattle.bor_store_sql.specs.Fitting.{standing, Pairwise, Fit, statements_kept, TellsOf, IsRowOf, HasListsOf, IsKept};
 ghost use Rattle.bor_store_sql.specs.Selected.{interests_at, identifiers_at};
 
 use crate::additions::{identifiers, interests, next_number};
@@ -128,7 +128,7 @@ fn keeps_interests<S: Alter>(
     interests: &[Interest],
 ) -> Result<bool, Error>
     ensures { let at : At = record { agent = agent.now; filing = number; place = place } in
-        Tells S.Store conn.old conn.new result (λ r.
+        TellsOf S.Store conn.old conn.new result (λ r.
         map interest_columns (interests_from at 1 interests.now)
         ≡ map interest_columns (interests_at at r.members)) }
 {
@@ -145,7 +145,7 @@ fn keeps_identifiers<S: Alter>(
     identifiers: &[Identifier],
 ) -> Result<bool, Error>
     ensures { let at : At = record { agent = agent.now; filing = number; place = place } in
-        Tells S.Store conn.old conn.new result (λ r.
+        TellsOf S.Store conn.old conn.new result (λ r.
         map identifier_columns (identifiers_from at 1 identifiers.now)
         ≡ map identifier_columns (identifiers_at at r.members)) }
 {
@@ -161,7 +161,7 @@ fn keeps_lists<S: Alter>(
     place: u32,
     statement: &Statement,
 ) -> Result<bool, Error>
-    ensures { Tells S.Store conn.old conn.new result (λ r.
+    ensures { TellsOf S.Store conn.old conn.new result (λ r.
         HasListsOf (standing agent.now number place statement.now) r.members) }
 {
     let details = &statement.details;
@@ -180,7 +180,7 @@ fn keeps_statement<S: Alter>(
     place: u32,
     statement: &Statement,
 ) -> Result<bool, Error>
-    ensures { Tells S.Store conn.old conn.new result (λ r.
+    ensures { TellsOf S.Store conn.old conn.new result (λ r.
         IsKept agent.now number r.members place statement.now row.now) }
 {
     if !is_statement(row, agent, number, place, statement) {
@@ -197,7 +197,7 @@ fn keeps_rows<S: Alter>(
     number: u32,
     statements: &[Statement],
 ) -> Result<bool, Error>
-    ensures { Tells S.Store conn.old conn.new result (λ r.
+    ensures { TellsOf S.Store conn.old conn.new result (λ r.
         Pairwise (IsKept agent.now number r.members) 1 statements.now rows.now) }
 {
     if rows.len() != statements.len() {
@@ -223,7 +223,7 @@ pub fn keeps_statements<S: Alter>(
     number: u32,
     statements: &[Statement],
 ) -> Result<bool, Error>
-    ensures tells { Tells S.Store conn.old conn.new result (λ r.
+    ensures tells { TellsOf S.Store conn.old conn.new result (λ r.
         Fit agent.now number 1 statements.now (statements_kept agent.now number r)) }
     ensures settled { IfOk result (λ fits. conn.old.in_transaction ≡ false) }
 {

@@ -2,7 +2,7 @@
 
 ghost use Rattle.sqlite.specs.Held.{state};
 ghost use Rattle.sqlite.specs.Values.{bound};
-ghost use Rattle.bor_store_sql.specs.Found.{IsQuery, Asked};
+ghost use Rattle.bor_store_sql.specs.Found.{IsQuery, AnswersQuery};
 
 use sqlite::types::ValueRef;
 use sqlite::{Alter, Connection, Error, ErrorCode, Row};
@@ -14,7 +14,7 @@ pub(crate) fn query<S: Alter>(
     params: &[ValueRef<'_>],
 ) -> Result<Vec<Row>, Error>
     requires { IsQuery sql.now }
-    ensures { Asked sql.now (bound params.now) (state S.Store conn.old) (state S.Store conn.new)
+    ensures { AnswersQuery sql.now (bound params.now) (state S.Store conn.old) (state S.Store conn.new)
         result }
 {
     if !conn.is_autocommit() {

@@ -41,7 +41,7 @@ use Rattle.bor_desk.specs.Runs.{Asked}
 use Rattle.bor_desk.specs.Step.{Answer, exactly, report, evidence, told, told_step, file_answer, agent_answer, registrar_step, step}
 use Rattle.bor_http.specs.declared.incoming.fault.Refusal as wire
 use Rattle.bor_http.specs.Incoming.Head.{head_end}
-use Rattle.bor_wire.specs.Spelling.Refusals.{refusals}
+use Rattle.bor_wire.specs.Spelling.Refusals.{refusals_spelled}
 use Rattle.bor_wire.specs.Spelling.Spell.{asked_behind, spelling}
 use Rattle.bor_wire.specs.Rendering.Replies.{Said, refused, answered, status_of}
 use Rattle.bor_wire.specs.Rendering.Statuses.{desk_status}
@@ -220,4 +220,4 @@ wire_first r (why ∷ ws) asked said h = h
 
 pub first_said : TheFirstRefusalIsSaid
 unfolding spelling
-first_said r input head said apart h = wire_first r (refusals input head) (asked_behind input (head_end input) head) said h
+first_said r input head said apart h = wire_first r (refusals_spelled input head) (asked_behind input (head_end input) head) said h

@@ -13,7 +13,7 @@ use Rattle.bor_desk.specs.Laws.{may_tell_a_change}
 use Rattle.bor_desk.proofs.Unchanged.{refusal_leaves, reads}
 use Rattle.bor_wire.specs.Spelling.Spell.{Spelled}
 use Rattle.bor_wire.specs.Rendering.Heads.{status_line, field_line, own_line, line_end, head_bytes}
-use Rattle.bor_wire.specs.Rendering.Replies.{Said, status_of, path_of, reply_body, bytes_of}
+use Rattle.bor_wire.specs.Rendering.Replies.{Said, status_of, path_replied, reply_body, bytes_of}
 use Rattle.bor_wire.specs.Rendering.Statuses.{desk_status}
 use Rattle.bor_wire.specs.Inputs.{IsSaid, after}
 use Rattle.bor_wire.specs.Runs.{AreReplies}
@@ -77,7 +77,7 @@ pub line_first : (said : Said) → HasStatus (bytes_of said) (status_of said)
 unfolding head_bytes
 line_first said =
     let status : ℕ = status_of said in
-    front (status_line status) (field_line (codes "Content-Type") (codes "application/json")) (field_line (codes "Content-Length") (decimal (length (reply_body said)))) (own_line status (path_of said))
+    front (status_line status) (field_line (codes "Content-Type") (codes "application/json")) (field_line (codes "Content-Length") (decimal (length (reply_body said)))) (own_line status (path_replied said))
     (field_line (codes "Connection") (codes "close")) line_end (reply_body said)
 
 told_status : (said : Said) (bytes : List ℕ) (status : ℕ) → bytes ≡ bytes_of said → HasStatus bytes status → status_of said ≡ status

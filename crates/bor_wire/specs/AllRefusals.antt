@@ -31,7 +31,7 @@ use Rattle.bor_desk.specs.declared.request.Request.{Request}
 use Rattle.bor_desk.specs.declared.request.Request.TheVariants as ask
 use Rattle.bor_http.specs.Incoming.Message.{Parts, IsTakenApart}
 use Rattle.bor_http.specs.Incoming.Head.{head_end}
-use Rattle.bor_wire.specs.Spelling.Refusals.{refusals}
+use Rattle.bor_wire.specs.Spelling.Refusals.{refusals_spelled}
 use Rattle.bor_wire.specs.Spelling.Spell.{asked_behind, spelling}
 use Rattle.bor_wire.specs.Rendering.Replies.{Said, refused, answered, status_of}
 use Rattle.bor_wire.specs.Inputs.{IsSaid}
@@ -140,7 +140,7 @@ register_refusals r caller request =
 abbrev pub input_refusals : Register → List ℕ → Option Parts → List Said
 input_refusals r input head =
     let asked = asked_behind input (head_end input) head in
-    map refused (refusals input head)
+    map refused (refusals_spelled input head)
     ++ map (λ why. answered (tell.Refused why))
     (register_refusals r (caller_of asked.token r) asked.request)
 

@@ -15,8 +15,8 @@ use Rattle.bor_desk.specs.declared.reply.DeskReply.TheVariants.{Chains, Evidence
 use Rattle.bor_wire.specs.Rendering.Replies.{answered, bytes_of}
 
 -- each number of links is below 2^64, as each is that is counted
-abbrev pub AreCounted : List PersonLine → Type 0
-AreCounted persons = All (λ p. p.links < 2 ^ 64) persons
+abbrev pub AreInRange : List PersonLine → Type 0
+AreInRange persons = All (λ p. p.links < 2 ^ 64) persons
 
 abbrev pub report_bytes : Node → ℤ → List PersonLine → List ℕ
 report_bytes entity day persons = bytes_of (answered (Chains entity day persons))
@@ -32,8 +32,8 @@ pub record IsSameReport (entity other : Node) (day date : ℤ)
 -- The bytes of a report determine its persons.
 abbrev pub BytesGivePersons : Type 0
 BytesGivePersons =
-    (entity other : Node) (day date : ℤ) (persons lines : List PersonLine) → AreCounted persons
-    → AreCounted lines →
+    (entity other : Node) (day date : ℤ) (persons lines : List PersonLine) → AreInRange persons
+    → AreInRange lines →
     report_bytes entity day persons ≡ report_bytes other date lines
     → IsSameReport entity other day date persons lines
 
@@ -52,7 +52,7 @@ abbrev pub AreRecordsCounted : List RecordEvidence → Type 0
 AreRecordsCounted records = All (λ x. AreSharesCounted x.entry.statement.details) records
 
 -- each number of links is below 2^64, and each end of a share, as each is that is counted or read
-pub record IsCounted (told : EntityEvidence) : Type 0 where
+pub record IsInRange (told : EntityEvidence) : Type 0 where
   pub persons : All (λ p. p.links < 2 ^ 64) told.persons
   pub shares : AreRecordsCounted told.records
 
@@ -72,8 +72,8 @@ pub record IsSameEvidence (entity other : Node) (day date : ℤ)
 -- The bytes of evidence determine its persons and its links.
 abbrev pub BytesGiveEvidence : Type 0
 BytesGiveEvidence =
-    (entity other : Node) (day date : ℤ) (told said : EntityEvidence) → IsCounted told
-    → IsCounted said →
+    (entity other : Node) (day date : ℤ) (told said : EntityEvidence) → IsInRange told
+    → IsInRange said →
     evidence_bytes entity day told ≡ evidence_bytes other date said
     → IsSameEvidence entity other day date told said
 

@@ -8,7 +8,7 @@ ghost use Rattle.bor_desk.specs.Outcomes.{IsOrderedFor, agent_of};
 ghost use Rattle.bor_http.specs.Incoming.Message.{request_limit};
 ghost use Rattle.bor_http.specs.Incoming.Reading.{TakesAtMost};
 ghost use Rattle.bor_wire.specs.Spelling.Spell.{asked_view, spell};
-ghost use Rattle.bor_wire.specs.Spelling.Steps.{Finds};
+ghost use Rattle.bor_wire.specs.Spelling.Steps.{FindsStated};
 ghost use Rattle.bor_wire.specs.Rendering.Limits.{reserved};
 ghost use Rattle.bor_wire.specs.Rendering.Statuses.{desk_status};
 ghost use Rattle.bor_wire.specs.Inputs.{after};
@@ -172,7 +172,7 @@ fn answered<K: Keep>(alloc: Global, keep: &mut K, asking: &Asking) -> Response
 // The bytes that were read are let go with this, so that no body is held twice while the desk
 // answers.
 fn spelled(alloc: Global, paths: &Paths, raw: RawRequest) -> Result<Asking, WireFault>
-    ensures { Finds asked_view result (spell raw) }
+    ensures { FindsStated asked_view result (spell raw) }
 {
     parse_by(alloc, paths, &raw)
 }

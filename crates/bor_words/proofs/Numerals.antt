@@ -4,7 +4,7 @@ use Rattle.std.specs.List.{list_all}
 use Rattle.std.specs.Char.{digit_value}
 use Rattle.std.specs.Str.Parse.{AllDigits, IsNumeral, digits_value, without_leading_plus}
 use Rattle.std.proofs.lemmas.Bool.{and_from, and_left, and_parts, and_right, false_from_ne_true}
-use Rattle.bor_words.specs.Values.{is_numeral, number_within}
+use Rattle.bor_words.specs.Values.{is_number_text, number_within}
 
 digits_pass : (ds : List ℕ) → AllDigits 10 ds → list_all (λ c. nat_lt (digit_value c) 10) ds ≡ true
 digits_pass [] h = refl
@@ -16,10 +16,10 @@ pass_digits (c ∷ cs) h =
     let both = and_parts _ _ h in
     (ltb-true (digit_value c) 10 both.0, pass_digits cs both.1)
 
-numeral_passes : (ds : List ℕ) → IsNumeral 10 ds → is_numeral ds ≡ true
+numeral_passes : (ds : List ℕ) → IsNumeral 10 ds → is_number_text ds ≡ true
 numeral_passes ds h = and_from _ _ (lt-ltb 0 (length ds) h.0) (digits_pass ds h.1)
 
-passes_numeral : (ds : List ℕ) → is_numeral ds ≡ true → IsNumeral 10 ds
+passes_numeral : (ds : List ℕ) → is_number_text ds ≡ true → IsNumeral 10 ds
 passes_numeral ds h =
     let both = and_parts _ _ h in
     (ltb-true 0 (length ds) both.0, pass_digits ds both.1)

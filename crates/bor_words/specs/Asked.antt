@@ -86,7 +86,7 @@ pub record IsServe (rows : List Row) (asked : Serve) : Type 0 where
   pub log : asked.log ≡ is_set (codes "log") rows
 
 -- the request for a report
-pub record IsReport (rows : List Row) (asked : Report) : Type 0 where
+pub record AsksReport (rows : List Row) (asked : Report) : Type 0 where
   pub db : asked.db.now ≡ given (codes "db") rows
   pub viewer : asked.viewer ≡ given (codes "viewer") rows
   pub agent : asked.agent ≡ given (codes "agent") rows
@@ -110,6 +110,6 @@ IsAsked entered (command.Exchange asked) =
 IsAsked entered (command.Serve asked) =
     (rows : List Row) × (found_behind (codes "serve") entered ≡ Some rows) × IsServe rows asked
 IsAsked entered (command.Report asked) =
-    (rows : List Row) × (found_behind (codes "report") entered ≡ Some rows) × IsReport rows asked
+    (rows : List Row) × (found_behind (codes "report") entered ≡ Some rows) × AsksReport rows asked
 IsAsked entered (command.Migrate asked) =
     (rows : List Row) × (found_behind (codes "migrate") entered ≡ Some rows) × IsMigrate rows asked

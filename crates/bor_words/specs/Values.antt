@@ -15,8 +15,8 @@ use Rattle.bor_words.specs.Words.{Entered, given}
 -- ---- numbers
 
 -- one digit or more, and nothing else
-abbrev pub is_numeral : List ℕ → Bool
-is_numeral digits = nat_lt 0 (length digits) && list_all (λ c. nat_lt (digit_value c) 10) digits
+abbrev pub is_number_text : List ℕ → Bool
+is_number_text digits = nat_lt 0 (length digits) && list_all (λ c. nat_lt (digit_value c) 10) digits
 
 -- the number is from low to high
 abbrev pub is_between : ℕ → ℕ → ℕ → Bool
@@ -27,7 +27,7 @@ is_between low high number = nat_le low number && nat_le number high
 unfoldable pub number_within : ℕ → ℕ → Text → Option ℕ
 number_within low high text =
     let digits = without_leading_plus text in
-    if is_numeral digits && is_between low high (digits_value 10 digits)
+    if is_number_text digits && is_between low high (digits_value 10 digits)
     then Some (digits_value 10 digits) else None
 
 abbrev pub port_of : Text → Option ℕ

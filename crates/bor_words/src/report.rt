@@ -2,7 +2,7 @@
 
 ghost use Rattle.std.specs.Prelude.{◌≡◌, None, IfErr, IfOk, OnOk};
 ghost use Rattle.clap.specs.Words.{found_of, rows_of};
-ghost use Rattle.bor_words.specs.Asked.{IsReport};
+ghost use Rattle.bor_words.specs.Asked.{AsksReport};
 ghost use Rattle.bor_words.specs.Unread.{IsUnfitAmong};
 ghost use Rattle.bor_words.specs.Values.{first_unfit, report_values};
 
@@ -35,7 +35,7 @@ pub struct Report<'a> {
 impl<'a> Report<'a> {
     /// Reads the words that were found behind the command's name.
     pub(crate) fn read(alloc: Global, found: &ArgMatches<'a>) -> Result<Self, Unread<'a>>
-        ensures ok { IfOk result (IsReport (rows_of (found_of found.now))) }
+        ensures ok { IfOk result (AsksReport (rows_of (found_of found.now))) }
         ensures fits { OnOk result
             (first_unfit (report_values (rows_of (found_of found.now))) ≡ None) }
         ensures err { IfErr result

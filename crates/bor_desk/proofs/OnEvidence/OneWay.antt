@@ -27,7 +27,7 @@ use Rattle.bor_desk.specs.declared.refusal.Refusal.TheVariants.{NoEntity}
 use Rattle.bor_desk.specs.Evidence.{way_cmp, IsLeastWay, IsBridge, person_evidence, without_first, goal_of, IsLinkEvidence, AreLinkEvidence, IsMentioned, AreRecords, IsEntityEvidence}
 use Rattle.bor_desk.specs.Step.{report, evidence, refused, chains_answer, evidence_answer}
 use Rattle.bor_desk.specs.Outcomes.{IsTold}
-use Rattle.bor_desk.specs.Laws.{EvidenceNamesTheJoined}
+use Rattle.bor_desk.specs.Laws.{AnsweredEvidenceNamesTheJoined}
 use Rattle.bor_desk.proofs.OnEvidence.LeastWays.{way_total}
 use Rattle.bor_desk.proofs.OnEvidence.Mentions.{one_records}
 
@@ -125,5 +125,5 @@ reported seen entity day told h = at (is_entity_info (info_of (shown_of day seen
     at true h = let same : told ≡ h.0 = cc in (map without_first told.persons, joined seen entity day told (subst (λ (t : EntityEvidence). IsEntityEvidence seen entity day t) (sym same) h.1), refl)
     at false h = absurd cc
 
-pub names_the_joined : EvidenceNamesTheJoined
+pub names_the_joined : AnsweredEvidenceNamesTheJoined
 names_the_joined = record { joined = joined; reported = reported }

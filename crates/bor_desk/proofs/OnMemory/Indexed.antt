@@ -27,7 +27,7 @@ use Rattle.bor_register.specs.declared.member.Member.{Member}
 use Rattle.bor_register.specs.Register.{filings_of, is_enrolled, new_member, with_filings, with_member}
 use Rattle.bor_register.specs.Withdrawal.{as_withdrawn, with_withdrawn}
 use Rattle.bor_desk.specs.Memory.Indexed.{AllNoted, AreNoted, IsGrown, IsIndex, has_key, has_record, values_under, key_cmp, key_of, signs_of, statements_in, subjects_of, under}
-use Rattle.bor_desk.specs.Memory.Sited.{ArePlaces, places_from}
+use Rattle.bor_desk.specs.Memory.Sited.{ArePlacesOf, places_from}
 use Rattle.bor_register.proofs.Members.{filings_absent, filings_written, other_filings, with_filings_absent}
 use Rattle.bor_desk.proofs.OnMemory.Sited.{no_places, places_more, places_none}
 use Rattle.bor_desk.proofs.OnMemory.Withdrawn.{places_withdrawn}
@@ -86,27 +86,27 @@ live_withdrawn number (f ∷ fs) s h = go (f.number == number) (λ k. live_withd
 -- ---- a filing more
 
 module _ {K : Type 0} (owner : K → List ℕ) (test : List ℕ → K → Statement → Bool) (apart : (a : List ℕ) (k : K) (s : Statement) → is_same a (owner k) ≡ false → test a k s ≡ false) where
-  places_grown : (ms : List Member) (agent : List ℕ) (f : AcceptedFiling) (k : K) (was now : List Place) → is_enrolled agent ms ≡ true → ArePlaces (filings_of (owner k) ms) (test (owner k) k) was
+  places_grown : (ms : List Member) (agent : List ℕ) (f : AcceptedFiling) (k : K) (was now : List Place) → is_enrolled agent ms ≡ true → ArePlacesOf (filings_of (owner k) ms) (test (owner k) k) was
       → now ≡ was ++ places_from (test agent k) (length (filings_of agent ms)) 0 f.statements
-      → ArePlaces (filings_of (owner k) (with_filings agent (filings_of agent ms ++ f ∷ []) ms)) (test (owner k) k) now
+      → ArePlacesOf (filings_of (owner k) (with_filings agent (filings_of agent ms ++ f ∷ []) ms)) (test (owner k) k) now
   places_grown ms agent f k was now enrolled h e = go (is_same agent (owner k)) refl
     where
       Grows : List ℕ → Type 0
-      Grows a = ArePlaces (filings_of (owner k) (with_filings a (filings_of a ms ++ f ∷ []) ms)) (test (owner k) k) (was ++ places_from (test a k) (length (filings_of a ms)) 0 f.statements)
+      Grows a = ArePlacesOf (filings_of (owner k) (with_filings a (filings_of a ms ++ f ∷ []) ms)) (test (owner k) k) (was ++ places_from (test a k) (length (filings_of a ms)) 0 f.statements)
 
       own : is_enrolled (owner k) ms ≡ true → Grows (owner k)
-      own on = subst (λ (fs : List AcceptedFiling). ArePlaces fs (test (owner k) k) (was ++ places_from (test (owner k) k) (length (filings_of (owner k) ms)) 0 f.statements))
+      own on = subst (λ (fs : List AcceptedFiling). ArePlacesOf fs (test (owner k) k) (was ++ places_from (test (owner k) k) (length (filings_of (owner k) ms)) 0 f.statements))
           (sym (filings_written (owner k) (filings_of (owner k) ms ++ f ∷ []) ms on)) (places_more (filings_of (owner k) ms) f (test (owner k) k) was h)
 
-      go : (b : Bool) → is_same agent (owner k) ≡ b → ArePlaces (filings_of (owner k) (with_filings agent (filings_of agent ms ++ f ∷ []) ms)) (test (owner k) k) now
+      go : (b : Bool) → is_same agent (owner k) ≡ b → ArePlacesOf (filings_of (owner k) (with_filings agent (filings_of agent ms ++ f ∷ []) ms)) (test (owner k) k) now
       go true q =
           let same : agent ≡ owner k = same_is agent (owner k) q in
-          subst (ArePlaces (filings_of (owner k) (with_filings agent (filings_of agent ms ++ f ∷ []) ms)) (test (owner k) k)) (sym e)
+          subst (ArePlacesOf (filings_of (owner k) (with_filings agent (filings_of agent ms ++ f ∷ []) ms)) (test (owner k) k)) (sym e)
           (subst Grows (sym same) (own (subst (λ (a : List ℕ). is_enrolled a ms ≡ true) same enrolled)))
       go false q =
           let stays : now ≡ was = e ∙ ap (λ (ps : List Place). was ++ ps) (no_places (test agent k) (length (filings_of agent ms)) 0 f.statements (λ s. apart agent k s q)) ∙ append-nil was in
-          subst (ArePlaces (filings_of (owner k) (with_filings agent (filings_of agent ms ++ f ∷ []) ms)) (test (owner k) k)) (sym stays)
-          (subst (λ (fs : List AcceptedFiling). ArePlaces fs (test (owner k) k) was) (sym (other_filings agent (owner k) (filings_of agent ms ++ f ∷ []) ms q)) h)
+          subst (ArePlacesOf (filings_of (owner k) (with_filings agent (filings_of agent ms ++ f ∷ []) ms)) (test (owner k) k)) (sym stays)
+          (subst (λ (fs : List AcceptedFiling). ArePlacesOf fs (test (owner k) k) was) (sym (other_filings agent (owner k) (filings_of agent ms ++ f ∷ []) ms q)) h)
 
 noted_grown : {K : Type 0} (keys : List ℕ → Statement → List K) (ms : List Member) (agent : List ℕ) (f : AcceptedFiling) (was now : K → List Node) → AllNoted keys ms was → AreNoted keys agent f.statements was now
     → AllNoted keys (with_filings agent (filings_of agent ms ++ f ∷ []) ms) now
@@ -131,9 +131,9 @@ index_more ms agent f old new enrolled h g = record {
 -- ---- a filing withdrawn
 
 module _ (ms : List Member) (agent : List ℕ) (number : ℕ) where
-  places_left : (name : List ℕ) (test : Statement → Bool) (ps : List Place) → ArePlaces (filings_of name ms) test ps → ArePlaces (filings_of name (with_filings agent (with_withdrawn number (filings_of agent ms)) ms)) test ps
-  places_left name test ps h = changed (λ fs. ArePlaces fs test ps) name agent (with_withdrawn number (filings_of agent ms)) ms h
-      (λ same. places_withdrawn number (filings_of agent ms) test ps (subst (λ (a : List ℕ). ArePlaces (filings_of a ms) test ps) (sym same) h))
+  places_left : (name : List ℕ) (test : Statement → Bool) (ps : List Place) → ArePlacesOf (filings_of name ms) test ps → ArePlacesOf (filings_of name (with_filings agent (with_withdrawn number (filings_of agent ms)) ms)) test ps
+  places_left name test ps h = changed (λ fs. ArePlacesOf fs test ps) name agent (with_withdrawn number (filings_of agent ms)) ms h
+      (λ same. places_withdrawn number (filings_of agent ms) test ps (subst (λ (a : List ℕ). ArePlacesOf (filings_of a ms) test ps) (sym same) h))
 
   noted_left : {K : Type 0} (keys : List ℕ → Statement → List K) (was : K → List Node) → AllNoted keys ms was → AllNoted keys (with_filings agent (with_withdrawn number (filings_of agent ms)) ms) was
   noted_left keys was h name s k live has =
@@ -160,8 +160,8 @@ member_more name agent token (m ∷ ms) h = grind (arith, member_more name agent
 
 pub index_same : (ms ns : List Member) (x : Index) → ((name : List ℕ) → filings_of name ns ≡ filings_of name ms) → IsIndex ms x → IsIndex ns x
 index_same ms ns x same h = record {
-  series = λ n. subst (λ (fs : List AcceptedFiling). ArePlaces fs (has_record n) (under node_cmp x.series n)) (sym (same n.agent)) (h.series n);
-  named = λ k. subst (λ (fs : List AcceptedFiling). ArePlaces fs (has_key k) (under key_cmp x.named k)) (sym (same k.agent)) (h.named k);
+  series = λ n. subst (λ (fs : List AcceptedFiling). ArePlacesOf fs (has_record n) (under node_cmp x.series n)) (sym (same n.agent)) (h.series n);
+  named = λ k. subst (λ (fs : List AcceptedFiling). ArePlacesOf fs (has_key k) (under key_cmp x.named k)) (sym (same k.agent)) (h.named k);
   naming = λ agent s k live has. h.naming agent s k (subst (λ (fs : List AcceptedFiling). Contains (statements_in fs) s) (same agent) live) has;
   signed = λ agent s k live has. h.signed agent s k (subst (λ (fs : List AcceptedFiling). Contains (statements_in fs) s) (same agent) live) has;
 }

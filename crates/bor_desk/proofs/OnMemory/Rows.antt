@@ -30,7 +30,7 @@ use Rattle.bor_register.specs.Register.{IsOrdered, filings_of}
 use Rattle.bor_register.specs.Rows.{is_visible, row_of, rows_from, rows_in, visible, visible_in}
 use Rattle.bor_desk.specs.Memory.Indexed.{has_key, has_record, statements_in}
 use Rattle.bor_desk.specs.Memory.Sighted.{statement_unless_closed}
-use Rattle.bor_desk.specs.Memory.Sited.{Sited, ArePlaces, is_told, passes, row_sited, sited_at, sited_from, sited_in}
+use Rattle.bor_desk.specs.Memory.Sited.{Sited, ArePlacesOf, is_told, passes, row_sited, sited_at, sited_from, sited_in}
 use Rattle.bor_register.proofs.OneAgent.{one_agent}
 use Rattle.bor_desk.proofs.OnMemory.Lists.{filter-map, filter_between, filter_true, last_map}
 use Rattle.bor_desk.proofs.OnMemory.Sited.{picked}
@@ -68,7 +68,7 @@ module _ (viewer : List ℕ) (today : ℤ) (name : List ℕ) where
 
 -- ---- the latest statement of a record
 
-module _ (viewer : List ℕ) (today day : ℤ) (n : Node) (ms : List Member) (ordered : IsOrdered ms) (ps : List Place) (places : ArePlaces (filings_of n.agent ms) (has_record n) ps) where
+module _ (viewer : List ℕ) (today day : ℤ) (n : Node) (ms : List Member) (ordered : IsOrdered ms) (ps : List Place) (places : ArePlacesOf (filings_of n.agent ms) (has_record n) ps) where
   series_sited : series n (visible viewer today ms) ≡ map (row_sited n.agent) (filter (λ (x : Sited). has_record n x.statement) (filter (λ (x : Sited). is_visible viewer today n.agent x.filing) (sited_in 0 (filings_of n.agent ms))))
   series_sited =
       let seen : List Sited = filter (λ (x : Sited). is_visible viewer today n.agent x.filing) (sited_in 0 (filings_of n.agent ms)) in
@@ -135,7 +135,7 @@ known_map None = refl
 known_map (Some x) = refl
 
 -- the last place at which a statement stands is that of the last one
-pub last_sited : (n : Node) (fs : List AcceptedFiling) (ps : List Place) → ArePlaces fs (has_record n) ps
+pub last_sited : (n : Node) (fs : List AcceptedFiling) (ps : List Place) → ArePlacesOf fs (has_record n) ps
     → option_map (λ (x : Sited). known_of (as_live x.filing.due x.statement)) (option_and_then (sited_at fs) (last_or None (filter (λ p. passes (λ x. true) (sited_at fs p)) ps))) ≡ last_of n.declaration n.rec (live_of fs)
 last_sited n fs ps places =
     let all : List Sited = sited_in 0 fs in
@@ -220,7 +220,7 @@ any_live k [] = refl
 any_live k (x ∷ xs) = ap₂ (λ (a b : Bool). a || b) (sym (key_is k x.statement)) (any_live k xs)
 
 -- a statement stands at one of the places where one has the identifier
-pub any_sited : (k : StatementKey) (fs : List AcceptedFiling) (ps : List Place) → ArePlaces fs (has_key k) ps
+pub any_sited : (k : StatementKey) (fs : List AcceptedFiling) (ps : List Place) → ArePlacesOf fs (has_key k) ps
     → is_some (last_or None (filter (λ p. passes (λ x. true) (sited_at fs p)) ps)) ≡ has_id k.id (live_of fs)
 any_sited k fs ps places =
     some_passes (λ p. passes (λ x. true) (sited_at fs p)) None ps ∙ any_stands (sited_at fs) ps ∙ ap (list_any (λ (x : Sited). true)) places.told

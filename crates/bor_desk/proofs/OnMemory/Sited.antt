@@ -7,7 +7,7 @@ use Rattle.bods_read.specs.declared.statement.Statement.{Statement}
 use Rattle.bor_records.proofs.Lists.{all_map}
 use Rattle.bor_register.specs.declared.filing.AcceptedFiling.{AcceptedFiling}
 use Rattle.bor_desk.specs.declared.memory.index.Place.{Place}
-use Rattle.bor_desk.specs.Memory.Sited.{Sited, ArePlaces, passes, places_from, sited_at, sited_from, sited_in, sited_of}
+use Rattle.bor_desk.specs.Memory.Sited.{Sited, ArePlacesOf, passes, places_from, sited_at, sited_from, sited_in, sited_of}
 use Rattle.bor_desk.proofs.OnMemory.Lists.{all_append, get_before, get_next}
 
 -- what stands at places within the filings stays where a filing is added
@@ -65,7 +65,7 @@ within_new test i j n (s ∷ ss) lt = go (test s) (within_new test i (j + 1) n s
     go false rest = rest
 
 -- places with those of one more filing
-pub places_more : (fs : List AcceptedFiling) (f : AcceptedFiling) (test : Statement → Bool) (ps : List Place) → ArePlaces fs test ps → ArePlaces (fs ++ f ∷ []) test (ps ++ places_from test (length fs) 0 f.statements)
+pub places_more : (fs : List AcceptedFiling) (f : AcceptedFiling) (test : Statement → Bool) (ps : List Place) → ArePlacesOf fs test ps → ArePlacesOf (fs ++ f ∷ []) test (ps ++ places_from test (length fs) 0 f.statements)
 places_more fs f test ps h = record { told = told; within = within }
   where
     new : List Place
@@ -91,8 +91,8 @@ places_more fs f test ps h = record { told = told; within = within }
         (all_map (λ (p : Place). p.filing < length fs) (λ (p : Place). p.filing < length (fs ++ f ∷ [])) ps (λ p lt. omega (arith, lt, long)) h.within)
         (within_new test (length fs) 0 (length (fs ++ f ∷ [])) f.statements (omega (arith, long)))
 
-pub places_none : (test : Statement → Bool) (ps : List Place) → ps ≡ [] → ArePlaces [] test ps
-places_none test ps e = subst (ArePlaces [] test) (sym e) (record { told = refl; within = tt })
+pub places_none : (test : Statement → Bool) (ps : List Place) → ps ≡ [] → ArePlacesOf [] test ps
+places_none test ps e = subst (ArePlacesOf [] test) (sym e) (record { told = refl; within = tt })
 
 -- nothing is added where none passes
 pub no_places : (test : Statement → Bool) (i j : ℕ) (ss : List Statement) → ((s : Statement) → test s ≡ false) → places_from test i j ss ≡ []

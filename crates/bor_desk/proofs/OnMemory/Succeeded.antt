@@ -14,7 +14,7 @@ use Rattle.bor_register.specs.Withdrawal.{shares_record}
 use Rattle.bor_register.specs.declared.filing.AcceptedFiling.{AcceptedFiling}
 use Rattle.bor_desk.specs.declared.memory.index.Place.{Place}
 use Rattle.bor_desk.specs.Memory.Indexed.{has_record}
-use Rattle.bor_desk.specs.Memory.Sited.{Sited, ArePlaces, passes, sited_at, sited_from, sited_in}
+use Rattle.bor_desk.specs.Memory.Sited.{Sited, ArePlacesOf, passes, sited_at, sited_from, sited_in}
 use Rattle.bor_desk.proofs.OnMemory.Rows.{record_is}
 use Rattle.bor_desk.proofs.OnMemory.Withdrawn.{site_is}
 
@@ -137,7 +137,7 @@ module _ (at : ℕ) (test : Statement → Bool) where
       ∙ ap₂ (λ (a b : Bool). a || b) (none_after i f 0 f.statements (let le : i ≤ at = omega (arith, is) in grind (arith, nat_tests))) (any_dropped (i + 1) m fs (omega (arith, is)))
 
 -- the last place at which a statement of the record stands is later where a later filing has one
-pub followed : (n : Node) (at : ℕ) (fs : List AcceptedFiling) (ps : List Place) → ArePlaces fs (has_record n) ps
+pub followed : (n : Node) (at : ℕ) (fs : List AcceptedFiling) (ps : List Place) → ArePlacesOf fs (has_record n) ps
     → is_later at (last_or None (filter (λ p. passes (λ x. true) (sited_at fs p)) ps)) ≡ list_any (λ (g : AcceptedFiling). list_any (is_of n.declaration n.rec) g.statements) (drop (at + 1) fs)
 followed n at fs ps places =
     ap (is_later at) (last_place fs None ps ∙ ap (λ (xs : List Sited). place_of (last_or None xs)) places.told)

@@ -9,7 +9,7 @@ use Rattle.bods_read.specs.declared.statement.Statement.{Statement}
 use Rattle.bor_register.specs.declared.filing.AcceptedFiling.{AcceptedFiling}
 use Rattle.bor_desk.specs.declared.memory.index.Place.{Place}
 use Rattle.bor_register.specs.Withdrawal.{as_withdrawn, with_withdrawn}
-use Rattle.bor_desk.specs.Memory.Sited.{Sited, ArePlaces, sited_at, sited_from, sited_in, sited_of}
+use Rattle.bor_desk.specs.Memory.Sited.{Sited, ArePlacesOf, sited_at, sited_from, sited_in, sited_of}
 use Rattle.bor_desk.proofs.OnMemory.Lists.{filters_swap}
 
 -- ---- numbers
@@ -161,7 +161,7 @@ long_withdrawn number (f ∷ fs) = go (f.number == number) (long_withdrawn numbe
     go false rest = ap suc rest
 
 -- the places stay those of the statements that are left
-pub places_withdrawn : (number : ℕ) (fs : List AcceptedFiling) (test : Statement → Bool) (ps : List Place) → ArePlaces fs test ps → ArePlaces (with_withdrawn number fs) test ps
+pub places_withdrawn : (number : ℕ) (fs : List AcceptedFiling) (test : Statement → Bool) (ps : List Place) → ArePlacesOf fs test ps → ArePlacesOf (with_withdrawn number fs) test ps
 places_withdrawn number fs test ps h = record {
   told = withdrawn_places number fs ps ∙ ap (filter (elsewhere (first_at 0 number fs))) h.told ∙ filters_swap (elsewhere (first_at 0 number fs)) (λ (x : Sited). test x.statement) (sited_in 0 fs)
       ∙ ap (filter (λ (x : Sited). test x.statement)) (sym (withdrawn_in 0 number fs));

@@ -8,7 +8,7 @@ use Rattle.bor_register.specs.declared.fault.StoreFault.TheVariants as fault
 use Rattle.bor_desk.specs.Memory.Holding.{Holding}
 use Rattle.bor_register.specs.Bare.{bare_register}
 use Rattle.bor_desk.specs.Mirror.Following.{IsFollowed, Mirrors, mirrored}
-use Rattle.bor_desk.specs.Mirror.Reading.{HasAnswered, IsRead, of_mirror, of_store}
+use Rattle.bor_desk.specs.Mirror.Reading.{HasAnswered, IsReadOfEither, of_mirror, of_store}
 
 -- what a register in memory shows
 abbrev pub in_memory : Meaning Holding Register (Unit {0}) StoreFault
@@ -75,7 +75,7 @@ module _ {S W : Type 0} (meaning : Meaning S Register W StoreFault) where
   -- A read of either is one of the keep: a register without its files has what the mirror answers,
   -- and so has the register.
   pub is_read : {T : Type 0} {P : Register → T → Type 0} {asks : Holding → Result T StoreFault → Holding → Type 0} {asks_store : S → Result T StoreFault → S → Type 0} {old new : S × Option Register} {result : Result T StoreFault}
-      → IsRead asks asks_store old new result
+      → IsReadOfEither asks asks_store old new result
       → ((was is : Holding) (answer : Result T StoreFault) → asks was answer is → Reads in_memory was is answer P)
       → ((was is : S) (answer : Result T StoreFault) → asks_store was answer is → Reads meaning was is answer P)
       → ((r : Register) (x : T) → P (bare_register r) x → P r x)

@@ -18,7 +18,7 @@ use Rattle.bor_register.specs.declared.member.Member.{Member}
 use Rattle.bor_desk.specs.declared.memory.index.Index.{Index}
 use Rattle.bor_desk.specs.declared.memory.index.StatementKey.{StatementKey}
 use Rattle.bor_register.specs.Register.{filings_of}
-use Rattle.bor_desk.specs.Memory.Sited.{ArePlaces, places_from}
+use Rattle.bor_desk.specs.Memory.Sited.{ArePlacesOf, places_from}
 
 -- the values under a key
 abbrev pub values_under : {X : Type 0} → Option (Vec X Global) → List X
@@ -97,9 +97,9 @@ AllNoted {K} keys ms now =
 -- The maps are those of the members' filings.
 pub record IsIndex (ms : List Member) (x : Index) : Type 0 where
   pub series : (n : Node)
-      → ArePlaces (filings_of n.agent ms) (has_record n) (under node_cmp x.series n)
+      → ArePlacesOf (filings_of n.agent ms) (has_record n) (under node_cmp x.series n)
   pub named : (k : StatementKey)
-      → ArePlaces (filings_of k.agent ms) (has_key k) (under key_cmp x.named k)
+      → ArePlacesOf (filings_of k.agent ms) (has_key k) (under key_cmp x.named k)
   pub naming : AllNoted subjects_of ms (under node_cmp x.naming)
   pub signed : AllNoted signs_of ms (under sign_cmp x.signed)
 
@@ -108,7 +108,7 @@ pub record IsIndex (ms : List Member) (x : Index) : Type 0 where
 abbrev pub LeadsToAll : List ℕ → List AcceptedFiling → Index → Type 0
 LeadsToAll agent fs x =
     (s : Statement)
-    → ArePlaces fs (has_record (stated agent s)) (under node_cmp x.series (stated agent s))
+    → ArePlacesOf fs (has_record (stated agent s)) (under node_cmp x.series (stated agent s))
 
 -- The statements of an agent's filing, which has this index, are added to the maps.
 pub record IsGrown (agent : List ℕ) (filing : ℕ) (ss : List Statement)

@@ -63,7 +63,7 @@ places_from test i j (s ∷ ss) =
 
 -- The places, in order, of the live statements that pass. A place may have lost its statement, and
 -- none is beyond the filings.
-pub record ArePlaces (fs : List AcceptedFiling) (test : Statement → Bool)
+pub record ArePlacesOf (fs : List AcceptedFiling) (test : Statement → Bool)
     (places : List Place) : Type 0 where
   pub told : filter_map (sited_at fs) places ≡ filter (λ x. test x.statement) (sited_in 0 fs)
   pub within : AllByRecursion (λ p. p.filing < length fs) places

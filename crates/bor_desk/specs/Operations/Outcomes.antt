@@ -94,7 +94,7 @@ IsDone store view (Err fault) told = Refuses store fault told
 
 -- a call that asks no keep answers what the definition gives: its one fault of the store is want of
 -- memory
-pub record IsMade {A B : Type 0} (view : A → B) (made : Result A LodgeFault)
+pub record IsMadeAlone {A B : Type 0} (view : A → B) (made : Result A LodgeFault)
     (told : Result B LodgeFault) : Type 0 where
   pub done : IsDone of_lodging view made told
   pub err : IfErr made (λ fault. ByStore (of_lodging fault) (Unit {0}) (λ f. f ≡ Memory))

@@ -6,7 +6,7 @@ ghost use Rattle.bor_records.specs.Admission.{known_of, last_of};
 ghost use Rattle.bor_records.specs.Settling.{as_live, has_id};
 ghost use Rattle.bor_register.specs.Live.{live_of};
 ghost use Rattle.bor_desk.specs.Memory.Indexed.{has_key, has_record};
-ghost use Rattle.bor_desk.specs.Memory.Sited.{ArePlaces, passes, sited_at};
+ghost use Rattle.bor_desk.specs.Memory.Sited.{ArePlacesOf, passes, sited_at};
 
 use crate::memory::index::{Place, StatementKey};
 use bor_records::Last;
@@ -56,7 +56,7 @@ pub(crate) fn last_standing(filings: &[AcceptedFiling], places: &[Place]) -> Opt
 /// A record's last live statement, as far as the rules ask, by the places of its statements. `node`
 /// names what the contract speaks of; the body doesn't read it.
 pub(crate) fn last_known(filings: &[AcceptedFiling], places: &[Place], node: &Node) -> Option<Last>
-    requires { ArePlaces filings.now (has_record node.now) places.now }
+    requires { ArePlacesOf filings.now (has_record node.now) places.now }
     ensures { result ≡ last_of node.now.declaration node.now.rec (live_of filings.now) }
 {
     match last_standing(filings, places) {
@@ -68,7 +68,7 @@ pub(crate) fn last_known(filings: &[AcceptedFiling], places: &[Place], node: &No
 /// Whether a live statement has the identifier, by the places of those that have had it. `key`
 /// names what the contract speaks of; the body doesn't read it.
 pub(crate) fn any_stands(filings: &[AcceptedFiling], places: &[Place], key: &StatementKey) -> bool
-    requires { ArePlaces filings.now (has_key key.now) places.now }
+    requires { ArePlacesOf filings.now (has_key key.now) places.now }
     ensures { result ≡ has_id key.now.id (live_of filings.now) }
 {
     last_standing(filings, places).is_some()

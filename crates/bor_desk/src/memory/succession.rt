@@ -5,7 +5,7 @@ ghost use Rattle.std.specs.List.{list_any};
 ghost use Rattle.bor_records.specs.Admission.{is_of};
 ghost use Rattle.bor_register.specs.Withdrawal.{has_successor, shares_record};
 ghost use Rattle.bor_desk.specs.Memory.Indexed.{LeadsToAll, has_record};
-ghost use Rattle.bor_desk.specs.Memory.Sited.{ArePlaces};
+ghost use Rattle.bor_desk.specs.Memory.Sited.{ArePlacesOf};
 
 use crate::memory::index::{Index, Place, record_of};
 use crate::memory::standing::last_standing;
@@ -17,7 +17,7 @@ use std::alloc::{AllocError, Global};
 // Whether a record has a live statement in a filing after the one at this place, by the places of
 // its statements. `node` names what the contract speaks of; the body doesn't read it.
 fn is_followed(filings: &[AcceptedFiling], places: &[Place], at: usize, node: &Node) -> bool
-    requires { ArePlaces filings.now (has_record node.now) places.now }
+    requires { ArePlacesOf filings.now (has_record node.now) places.now }
     ensures { result ≡ list_any
         (λ later. list_any (is_of node.now.declaration node.now.rec) later.statements)
         (drop (at + 1) filings.now) }

@@ -8,7 +8,7 @@ ghost use Rattle.bor_register.specs.Held.{statement_count};
 ghost use Rattle.bor_register.specs.Register.{Register};
 ghost use Rattle.bor_desk.specs.Memory.Holding.{Holding};
 ghost use Rattle.bor_desk.specs.Mirror.Following.{IsFollowed};
-ghost use Rattle.bor_desk.specs.Mirror.Reading.{IsRead};
+ghost use Rattle.bor_desk.specs.Mirror.Reading.{IsReadOfEither};
 
 use crate::memory::ListKeep;
 use crate::mirror::mirror_store::MirrorStore;
@@ -125,7 +125,7 @@ impl<K: MirrorStore + Drop> MirroredKeep<K> {
         requires store { S.IsAlwaysCallable by_store }
         requires lasts { (old new : K) (x : T)
             → FnOnceReturnsAtMut S.FnOnce by_store old (Ok x) new → StaysClean K.meaning old new }
-        ensures { IsRead (λ old x new. FnOnceReturnsAtMut M.FnOnce by_mirror old x new)
+        ensures { IsReadOfEither (λ old x new. FnOnceReturnsAtMut M.FnOnce by_mirror old x new)
             (λ old x new. FnOnceReturnsAtMut S.FnOnce by_store old x new)
             self.old self.new result }
     {

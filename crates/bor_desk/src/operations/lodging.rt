@@ -15,7 +15,7 @@ ghost use Rattle.bor_desk.specs.declared.operations.fault.LodgeFault.TheVariants
 ghost use Rattle.bor_register.specs.Limits.{filings_limit};
 ghost use Rattle.bor_desk.specs.Operations.Earlier.{AreFound};
 ghost use Rattle.bor_desk.specs.Operations.Lodging.{as_read, told_settled, told_verdict, settled_reading, repeated, addition, lodge_step};
-ghost use Rattle.bor_desk.specs.Operations.Outcomes.{Accounts, store_fault, of_lodging, IsOutcome, IsDone, IsMade};
+ghost use Rattle.bor_desk.specs.Operations.Outcomes.{Accounts, store_fault, of_lodging, IsOutcome, IsDone, IsMadeAlone};
 ghost use Rattle.bor_desk.specs.Operations.Legality.{IsLegal};
 ghost use Rattle.bor_desk.specs.Operations.Sight.{sight_of};
 
@@ -46,7 +46,7 @@ pub struct Lodged {
 
 fn read(alloc: Global, bytes: &[u8]) -> Result<Vec<Statement>, LodgeFault>
     ensures few { IfOk result (λ statements. length statements.items ≤ statements_limit) }
-    ensures read { IsMade (λ statements. statements.items) result (as_read (reading bytes.now)) }
+    ensures read { IsMadeAlone (λ statements. statements.items) result (as_read (reading bytes.now)) }
 {
     match read_file(alloc, bytes) {
         Ok(statements) => Ok(statements),

@@ -10,7 +10,7 @@ use Rattle.std.proofs.lemmas.Bool.Decides.{nat_tests}
 use Rattle.bor_http.specs.declared.incoming.fault.Path.{Path}
 use Rattle.bor_http.specs.declared.incoming.fault.Path.TheVariants as paths
 use Rattle.bor_http.specs.Routes.Routes.{Line, route_table, path_word}
-use Rattle.bor_http.specs.Routes.Paths.{segments, is_open, stands_for, is_written_as, path_of, IsSegment, IsPath}
+use Rattle.bor_http.specs.Routes.Paths.{segments, is_segment_word, stands_for, is_written_as, path_of, IsSegment, IsPath}
 use Rattle.bor_http.specs.Routes.Routers.{router, path_in}
 use Rattle.bor_http.proofs.OnRoutes.AsWritten.{is_found, is_path}
 use Rattle.bor_http.proofs.OnRoutes.Utf8Bytes.{text_bytes}
@@ -85,15 +85,15 @@ none_left [] h = refl
 none_left (part ∷ parts) h = cc
 
 -- where no word is a key, the segments are the words
-same_words : (parts words : List (List ℕ)) → list_all (λ word. not (is_open word)) words ≡ true → pointwise stands_for parts words ≡ true → parts ≡ words
+same_words : (parts words : List (List ℕ)) → list_all (λ word. not (is_segment_word word)) words ≡ true → pointwise stands_for parts words ≡ true → parts ≡ words
 same_words [] [] plain h = refl
 same_words [] (word ∷ words) plain h = cc
 same_words (part ∷ parts) [] plain h = cc
-same_words (part ∷ parts) (word ∷ words) plain h = by_word (is_open word) plain h (same_words parts words)
+same_words (part ∷ parts) (word ∷ words) plain h = by_word (is_segment_word word) plain h (same_words parts words)
   where
-    by_word : (key : Bool) → (not key && list_all (λ word. not (is_open word)) words) ≡ true
+    by_word : (key : Bool) → (not key && list_all (λ word. not (is_segment_word word)) words) ≡ true
         → ((if key then nat_lt 0 (length part) else bytes_eq part word) && pointwise stands_for parts words) ≡ true
-        → (list_all (λ word. not (is_open word)) words ≡ true → pointwise stands_for parts words ≡ true → parts ≡ words)
+        → (list_all (λ word. not (is_segment_word word)) words ≡ true → pointwise stands_for parts words ≡ true → parts ≡ words)
         → part ∷ parts ≡ word ∷ words
     by_word true plain h more = cc
     by_word false plain h more =
@@ -103,7 +103,7 @@ same_words (part ∷ parts) (word ∷ words) plain h = by_word (is_open word) pl
 
 -- ---- a text that is written as a path is that path
 
-plain_path : (text : List ℕ) (path : Path) → list_all (λ word. not (is_open word)) (segments (path_word path)) ≡ true
+plain_path : (text : List ℕ) (path : Path) → list_all (λ word. not (is_segment_word word)) (segments (path_word path)) ≡ true
     → is_written_as text path ≡ true → text ≡ path_word path
 plain_path text path plain h =
     sym (join_with_byte-slice_split 47 text) ∙ ap (join_with_byte 47) (same_words (segments text) (segments (path_word path)) plain h)
@@ -120,13 +120,13 @@ record Keyed (front text : List ℕ) (words : List (List ℕ)) : Type 0 where
   segment : IsSegment key
   more : pointwise stands_for rest words ≡ true
 
-plain_word : (part word : List ℕ) → is_open word ≡ false → stands_for part word ≡ true → part ≡ word
+plain_word : (part word : List ℕ) → is_segment_word word ≡ false → stands_for part word ≡ true → part ≡ word
 plain_word part word plain h = same_text part word (sym (rw plain at h))
 
-open_word : (part word : List ℕ) → is_open word ≡ true → stands_for part word ≡ true → nat_lt 0 (length part) ≡ true
+open_word : (part word : List ℕ) → is_segment_word word ≡ true → stands_for part word ≡ true → nat_lt 0 (length part) ≡ true
 open_word part word is h = rw is at h
 
-keyed : (front word text : List ℕ) (words : List (List ℕ)) → is_open front ≡ false → is_open word ≡ true
+keyed : (front word text : List ℕ) (words : List (List ℕ)) → is_segment_word front ≡ false → is_segment_word word ≡ true
     → pointwise stands_for (segments text) (behind front word words) ≡ true → Keyed front text words
 keyed front word text words plain is h =
     let a : Stand (segments text) [] (front ∷ word ∷ words) = stand (segments text) [] (front ∷ word ∷ words) h in

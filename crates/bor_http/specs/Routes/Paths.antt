@@ -14,14 +14,14 @@ abbrev pub segments : List ℕ → List (List ℕ)
 segments text = slice_split (λ b. b == 47) text
 
 -- whether a word of a path stands for a segment of the text
-abbrev pub is_open : List ℕ → Bool
-is_open word = bytes_eq word (codes "{key}") || bytes_eq word (codes "{name}")
+abbrev pub is_segment_word : List ℕ → Bool
+is_segment_word word = bytes_eq word (codes "{key}") || bytes_eq word (codes "{name}")
 
 -- a segment stands for a word of a path: any that isn't empty for {key} or {name}, and for another
 -- word itself; nothing is decoded
 abbrev pub stands_for : List ℕ → List ℕ → Bool
 stands_for segment word =
-    if is_open word then nat_lt 0 (length segment) else bytes_eq segment word
+    if is_segment_word word then nat_lt 0 (length segment) else bytes_eq segment word
 
 -- there are as many segments as words, and each stands for its word
 abbrev pub is_written_as : List ℕ → Path → Bool

@@ -6,10 +6,10 @@ use Rattle.bor_records.specs.Promises.{Meaning, Promised}
 use Rattle.bor_register.specs.Register.{Register}
 use Rattle.bor_wire.specs.declared.outgoing.Outgoing.{Outgoing}
 use Rattle.bor_wire.specs.Answering.{Responds}
-use Rattle.bor_program.specs.Connections.Serving.{Answer, IsNoteOn, IsServing, answer_of}
+use Rattle.bor_program.specs.Connections.Serving.{GivenReply, IsNoteOn, IsServing, answer_of}
 use Rattle.bor_program.specs.declared.log.Note.{Note}
-use Rattle.bor_program.specs.Logging.{IsNoteOf, MayAdd}
-use Rattle.bor_program.specs.Connections.Streams.{IsOf, Wire}
+use Rattle.bor_program.specs.Logging.{IsNoteOf, MayNote}
+use Rattle.bor_program.specs.Connections.Streams.{EndedOn, Wire}
 use Rattle.bor_program.specs.declared.connections.phase.Phase.{Phase}
 use Rattle.bor_program.specs.declared.connections.phase.Phase.TheVariants.{Reading, Writing, Draining}
 use Rattle.bor_program.specs.declared.connections.phase.Pace.{Pace}
@@ -20,23 +20,23 @@ use Rattle.bor_program.specs.Connections.Times.{IsIdleSince, IsPaced, moves_of}
 use Rattle.bor_program.proofs.OnConnections.Served.{answers}
 
 -- nothing was answered
-pub same_step : {K S Left : Type 0} (meaning : Meaning K Register Left StoreFault) (wire : Wire S) (keep : K) (this that : List Answer) (notes : List Note)
+pub same_step : {K S Left : Type 0} (meaning : Meaning K Register Left StoreFault) (wire : Wire S) (keep : K) (this that : List GivenReply) (notes : List Note)
     → that ≡ this → IsStep meaning wire (stand_at keep this notes) (stand_at keep that notes)
 same_step meaning wire keep this that notes same = λ start others tally noted before.
-    subst (λ l. IsServing meaning (IsOf wire) start keep (l ++ others) (record tally { notes = noted ++ notes })) (sym same) before
+    subst (λ l. IsServing meaning (EndedOn wire) start keep (l ++ others) (record tally { notes = noted ++ notes })) (sym same) before
 
-noted_so : (promised : (Register → Type 0) → Type 0) (request : List ℕ) (reply : Outgoing) (before after : List Note) → MayAdd (IsNoteOf promised request reply) before after
-    → MayAdd (IsNoteOn promised (answer_of request reply)) before after
+noted_so : (promised : (Register → Type 0) → Type 0) (request : List ℕ) (reply : Outgoing) (before after : List Note) → MayNote (IsNoteOf promised request reply) before after
+    → MayNote (IsNoteOn promised (answer_of request reply)) before after
 noted_so promised request reply before after (inl same) = inl same
 noted_so promised request reply before after (inr more) = inr (more.0, more.1, record { out = reply; is = refl; so = more.2 })
 
 -- a reply in memory is an answer
-pub answer_step : {K S Left : Type 0} (meaning : Meaning K Register Left StoreFault) (wire : Wire S) (old new : K) (request : List ℕ) (reply : Outgoing) (that : List Answer) (before after : List Note)
-    → that ≡ answer_of request reply ∷ [] → Responds meaning old new (Some request) reply → MayAdd (IsNoteOf (Promised meaning old new) request reply) before after
+pub answer_step : {K S Left : Type 0} (meaning : Meaning K Register Left StoreFault) (wire : Wire S) (old new : K) (request : List ℕ) (reply : Outgoing) (that : List GivenReply) (before after : List Note)
+    → that ≡ answer_of request reply ∷ [] → Responds meaning old new (Some request) reply → MayNote (IsNoteOf (Promised meaning old new) request reply) before after
     → IsStep meaning wire (stand_at old [] before) (stand_at new that after)
 answer_step meaning wire old new request reply that before after is responds notes = λ start others tally noted was.
-    subst (λ l. IsServing meaning (IsOf wire) start new (l ++ others) (record tally { notes = noted ++ after })) (sym is)
-    (answers meaning (IsOf wire) start old new others tally (answer_of request reply) noted before after was (noted_so (Promised meaning old new) request reply before after notes) responds.leaves
+    subst (λ l. IsServing meaning (EndedOn wire) start new (l ++ others) (record tally { notes = noted ++ after })) (sym is)
+    (answers meaning (EndedOn wire) start old new others tally (answer_of request reply) noted before after was (noted_so (Promised meaning old new) request reply before after notes) responds.leaves
     (λ r shown clean legal. responds.exchanged r shown clean legal.names) responds.up)
 
 pub then_steps : {K S Left : Type 0} (meaning : Meaning K Register Left StoreFault) (wire : Wire S) (this between that : Stand K)

@@ -7,7 +7,7 @@ use Rattle.std.specs.declared.time.Duration.{Duration}
 use Rattle.bor_program.specs.declared.connections.server.Client.{Client}
 use Rattle.bor_program.specs.declared.connections.server.Server.{Server}
 use Rattle.bor_program.specs.declared.connections.watch.Places.{Places}
-use Rattle.bor_program.specs.Connections.Servers.{AllRemain, FirstRemains, IsAmong, IsStill, NamesNone, Waiting}
+use Rattle.bor_program.specs.Connections.Servers.{AllRemain, FirstRemains, IsSeatedAmong, IsStill, NamesNone, Waiting}
 use Rattle.bor_program.specs.Connections.Times.{IsOverdue}
 
 still_free : (ready : List Bool) (place other : ℕ) → get_or ready other false ≡ false → get_or (set ready place false) other false ≡ false
@@ -21,7 +21,7 @@ still_free (x ∷ rest) (suc place) (suc other) is = still_free rest place other
 pub names_none : (old new : Places) (place : ℕ) → new.ready ≡ set old.ready place false → NamesNone old new
 names_none old new place is = λ other free. ap (λ l. get_or l other false) is ∙ still_free old.ready place other free
 
-still_among : {S : Type 0} (client : Client S) (clients more : List (Client S)) → IsAmong client clients → IsAmong client (clients ++ more)
+still_among : {S : Type 0} (client : Client S) (clients more : List (Client S)) → IsSeatedAmong client clients → IsSeatedAmong client (clients ++ more)
 still_among client clients more h =
     (h.0, h.1 ++ more, h.2, ap (λ l. l ++ more) h.3 ∙ append_assoc h.0 (h.2 ∷ h.1) more, h.4, h.5)
 
@@ -33,8 +33,8 @@ pub remain_on : {S : Type 0} (now : Duration) (server old new : Server S) (k : �
     → AllRemain now server (take (k + 1) server.queue.items) (drop (length server.queue.items - (k + 1)) new.queue.items)
 remain_on {S = S} now server old new k rest done more client lt is count was left limits named first h =
     let later : List (Client S) = drop (length server.queue.items - (k + 1)) new.queue.items in
-    let P : Client S → Type 0 = λ c. IsStill server.places c → (IsOverdue server.limits c.timing.since c.phase now → ⊥) → IsAmong c later in
-    let P0 : Client S → Type 0 = λ c. IsStill server.places c → (IsOverdue server.limits c.timing.since c.phase now → ⊥) → IsAmong c (drop (length server.queue.items - k) old.queue.items) in
+    let P : Client S → Type 0 = λ c. IsStill server.places c → (IsOverdue server.limits c.timing.since c.phase now → ⊥) → IsSeatedAmong c later in
+    let P0 : Client S → Type 0 = λ c. IsStill server.places c → (IsOverdue server.limits c.timing.since c.phase now → ⊥) → IsSeatedAmong c (drop (length server.queue.items - k) old.queue.items) in
     let one_more : length server.queue.items - k ≡ suc (length rest) = omega (arith, count, lt) in
     let before : drop (length server.queue.items - k) old.queue.items ≡ done =
     ap (λ l. drop (length server.queue.items - k) l) was ∙ ap (λ m. drop m (client ∷ (rest ++ done))) one_more ∙ drop-append_seam rest done in
@@ -44,7 +44,7 @@ remain_on {S = S} now server old new k rest done more client lt is count was lef
     let kept = first now client (rest ++ done) refl was (still.0, named client.place still.1) (λ over. due (subst (λ l. IsOverdue l client.timing.since client.phase now) limits over)) in
     (done, [], kept.0, behind (kept.0 ∷ []) kept.1, kept.2, kept.3) in
     All-more P server.queue.items k client lt
-    (All-weaker P0 P (λ c among still due. subst (IsAmong c) (sym (behind more left)) (still_among c done more (subst (IsAmong c) before (among still due)))) (take k server.queue.items) h)
+    (All-weaker P0 P (λ c among still due. subst (IsSeatedAmong c) (sym (behind more left)) (still_among c done more (subst (IsSeatedAmong c) before (among still due)))) (take k server.queue.items) h)
     (subst P is first_there)
 
 split_at : {X : Type 0} (xs : List X) (k : ℕ) → k < length xs → (x : X) × (x ≡ get_or xs k x) × (drop k xs ≡ x ∷ drop (k + 1) xs)

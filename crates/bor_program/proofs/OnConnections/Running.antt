@@ -12,9 +12,9 @@ use Rattle.bor_register.specs.Register.{Register}
 use Rattle.bor_program.specs.declared.log.Note.{Note}
 use Rattle.bor_program.specs.declared.connections.server.Server.{Server}
 use Rattle.bor_program.specs.Connections.Serving.{IsServedOver}
-use Rattle.bor_program.specs.Connections.Streams.{IsOf, Wire}
-use Rattle.bor_program.specs.Connections.Servers.{Advances, AreHeld, AreSeated, Asks, Becomes, GoesOnAs, IsRunning, IsSameElse, Lets, LetsIn, Runs, Standing, pending_in, tally_in, telling_in}
-use Rattle.bor_program.specs.Connections.Watching.{Act, AreDone, Does, Listens, OnWait, WaitsOnce, faults_after, is_asking, notes_in, refused_in}
+use Rattle.bor_program.specs.Connections.Streams.{EndedOn, Wire}
+use Rattle.bor_program.specs.Connections.Servers.{Advances, AreHeld, AreSeated, AsksWhoComes, Becomes, GoesOnAs, IsRunning, IsSameElse, Lets, LetsIn, Runs, Standing, pending_in, tally_in, telling_in}
+use Rattle.bor_program.specs.Connections.Watching.{Act, AreDone, DoesUnwaiting, Listens, OnWait, WaitsOnce, faults_after, is_asking, notes_in, refused_in}
 use Rattle.bor_program.proofs.OnConnections.Servers.{becomes_at, begun, finished, lets_go_on, lets_same, lets_then}
 use Rattle.bor_program.proofs.OnConnections.Watching.{does_none, does_then, done-append, faults-append, notes-append, over_kept, refused-append, unwaited, waits-append, waits_weaker}
 
@@ -34,8 +34,8 @@ lets_in_then does begun between left wire old mid new first second = record {
 }
 
 -- it was asked for a client before
-pub asks_on : {W : Type 0} (does : W → Act → W → Type 0) (begun between left : W) (refused : ℕ) (notes : List Note) → Asks (record { does = does; begun = begun; ended = between })
-    → Does does between left refused notes → Asks (record { does = does; begun = begun; ended = left })
+pub asks_on : {W : Type 0} (does : W → Act → W → Type 0) (begun between left : W) (refused : ℕ) (notes : List Note) → AsksWhoComes (record { does = does; begun = begun; ended = between })
+    → DoesUnwaiting does between left refused notes → AsksWhoComes (record { does = does; begun = begun; ended = left })
 asks_on does begun between left refused notes h more = record {
   acts = h.acts ++ more.acts;
   done = done-append does begun between left h.acts more.acts h.done more.done;
@@ -144,9 +144,9 @@ ran meaning does wire first now faults waits h ends = record {
 -- what was left to be told was told, and those that are there were given up, and those that have not come
 pub served_over : {K W S Left : Type 0} (meaning : Meaning K Register Left StoreFault) (does : W → Act → W → Type 0) (wire : Wire S) (first now : Standing K W S) (left : W) (connections : ℕ) (told last : Server S)
     → GoesOnAs meaning wire first.keep first.keep connections 0 [] first.server → Runs meaning does wire first now
-    → Becomes now.server told → Does does now.watch left 0 now.server.service.notes.items → told.service.notes.items ≡ []
+    → Becomes now.server told → DoesUnwaiting does now.watch left 0 now.server.service.notes.items → told.service.notes.items ≡ []
     → Lets wire (telling_in told) (pending_in told) told.left told.status last → last.service ≡ told.service → pending_in last ≡ 0
-    → IsServedOver meaning (IsOf wire) (record { does = does; begun = first.watch; ended = left }) first.server.limits first.keep now.keep connections last.status
+    → IsServedOver meaning (EndedOn wire) (record { does = does; begun = first.watch; ended = left }) first.server.limits first.keep now.keep connections last.status
 served_over meaning does wire first now left connections told last at runs same tells silent lets kept none =
     let gone : ℕ = refused_in runs.acts + 0 in
     let noted : List Note = notes_in runs.acts ++ now.server.service.notes.items in

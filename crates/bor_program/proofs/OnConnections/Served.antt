@@ -19,8 +19,8 @@ use Rattle.bor_wire.specs.Turns.{AllAnswerClean, AnswersClean}
 use Rattle.bor_wire.proofs.SequenceLaws.{a_run}
 use Rattle.bor_wire.proofs.TurnLaws.{open_more}
 use Rattle.bor_program.specs.declared.log.Note.{Note}
-use Rattle.bor_program.specs.Logging.{MayAdd}
-use Rattle.bor_program.specs.Connections.Serving.{Answer, Answered, AreNotes, Ended, IsNoteOn, IsServed, IsServedAs, IsServing, Tally, absent_in, answers_in, exchange_of, exchanges_of, has_failed, is_absent, told_in, told_on}
+use Rattle.bor_program.specs.Logging.{MayNote}
+use Rattle.bor_program.specs.Connections.Serving.{GivenReply, Answered, AreNotes, Ended, IsNoteOn, IsServed, IsServedAs, IsServing, Tally, absent_in, answers_in, exchange_of, exchanges_of, has_failed, is_absent, told_in, told_on}
 
 -- ---- lists
 
@@ -62,7 +62,7 @@ noted_one meaning keep (a ∷ rest) one notes note (inr h) is =
     inr (h.0, h.1 ++ note ∷ [], ap (λ l. l ++ note ∷ []) h.2, h.3, noted_one meaning a.keep rest one h.1 note h.4 is)
 
 noted_more : {K Left : Type 0} (meaning : Meaning K Register Left StoreFault) (old keep : K) (answered : List (Answered K)) (one : Answered K) (noted before after : List Note)
-    → keep_left old (exchanges_of answered) ≡ keep → AreNotes meaning old answered (noted ++ before) → MayAdd (IsNoteOn (Promised meaning keep one.keep) one.answer) before after
+    → keep_left old (exchanges_of answered) ≡ keep → AreNotes meaning old answered (noted ++ before) → MayNote (IsNoteOn (Promised meaning keep one.keep) one.answer) before after
     → AreNotes meaning old (answered ++ one ∷ []) (noted ++ after)
 noted_more meaning old keep answered one noted before after left h (inl same) =
     subst (λ l. AreNotes meaning old (answered ++ one ∷ []) (noted ++ l)) (sym same) (noted_none meaning old answered one (noted ++ before) h)
@@ -89,8 +89,8 @@ nothing_served meaning Is keep connections = record {
 }
 
 -- a request was answered
-pub answers : {K Left : Type 0} (meaning : Meaning K Register Left StoreFault) (Is : Ended → Type 0) (old keep new : K) (telling : List Answer) (tally : Tally) (answer : Answer) (noted before after : List Note)
-    → IsServing meaning Is old keep telling (record tally { notes = noted ++ before }) → MayAdd (IsNoteOn (Promised meaning keep new) answer) before after → Leaves meaning keep new (ShowsAfter meaning.left_shows (Some answer.request))
+pub answers : {K Left : Type 0} (meaning : Meaning K Register Left StoreFault) (Is : Ended → Type 0) (old keep new : K) (telling : List GivenReply) (tally : Tally) (answer : GivenReply) (noted before after : List Note)
+    → IsServing meaning Is old keep telling (record tally { notes = noted ++ before }) → MayNote (IsNoteOn (Promised meaning keep new) answer) before after → Leaves meaning keep new (ShowsAfter meaning.left_shows (Some answer.request))
     → Promised meaning keep new (λ r. IsLegal r → IsExchanged (Replied answer.status) (meaning.shows new) r (Some answer.request) (Some []) (Some answer.reply))
     → AnswersClean meaning (exchange_of (record { answer = answer; keep = new }))
     → IsServing meaning Is old new (answer ∷ telling) (record tally { notes = noted ++ after })
@@ -120,7 +120,7 @@ answers {K} meaning Is old keep new telling tally answer noted before after h no
     }
 
 -- some connections ended
-pub ends : {K Left : Type 0} (meaning : Meaning K Register Left StoreFault) (Is : Ended → Type 0) (old keep : K) (telling rest : List Answer) (tally : Tally) (left more : ℕ) (ended : List Ended)
+pub ends : {K Left : Type 0} (meaning : Meaning K Register Left StoreFault) (Is : Ended → Type 0) (old keep : K) (telling rest : List GivenReply) (tally : Tally) (left more : ℕ) (ended : List Ended)
     → IsServing meaning Is old keep telling tally → All Is ended → length ended + left ≡ tally.pending → absent_in ended ≡ more → IsPermutation telling (rest ++ told_in ended)
     → IsServing meaning Is old keep rest (record { connections = tally.connections; pending = left; absent = more + tally.absent; status = if list_any has_failed ended then 3 else tally.status; notes = tally.notes })
 ends meaning Is old keep telling rest tally left more ended h so count gone once = record {

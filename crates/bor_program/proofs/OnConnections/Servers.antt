@@ -15,8 +15,8 @@ use Rattle.bor_register.specs.Register.{Register}
 use Rattle.bor_program.specs.declared.log.Note.{Note}
 use Rattle.bor_program.specs.declared.connections.server.Client.{Client}
 use Rattle.bor_program.specs.declared.connections.server.Server.{Server}
-use Rattle.bor_program.specs.Connections.Serving.{Answer, Ended, Absent, IsServedAs, IsServing, Tally, absent_in, has_failed, is_absent, told_in, told_on}
-use Rattle.bor_program.specs.Connections.Streams.{IsOf, Wire}
+use Rattle.bor_program.specs.Connections.Serving.{GivenReply, Ended, Absent, IsServedAs, IsServing, Tally, absent_in, has_failed, is_absent, told_in, told_on}
+use Rattle.bor_program.specs.Connections.Streams.{EndedOn, Wire}
 use Rattle.bor_program.specs.Connections.Phases.{EndsAs, IsHeld, telling}
 use Rattle.bor_program.specs.Connections.Servers.{AreHeld, Becomes, GoesOnAs, Lets, idle_times, pending_in, tally_in, telling_in, telling_to}
 use Rattle.std.specs.Duration.{as_nanos}
@@ -32,12 +32,12 @@ held-append wire (c ∷ xs) ys h k = (h.0, held-append wire xs ys h.1 k)
 
 -- ---- none ends
 
-pub lets_none : {S : Type 0} (wire : Wire S) (telling : List Answer) (pending status : ℕ) (new : Server S) → AreHeld wire new.queue.items
+pub lets_none : {S : Type 0} (wire : Wire S) (telling : List GivenReply) (pending status : ℕ) (new : Server S) → AreHeld wire new.queue.items
     → pending_in new ≡ pending → IsPermutation telling (telling_in new) → new.status ≡ status → Lets wire telling pending 0 status new
 lets_none wire telling pending status new held count once told = record {
   held = held;
   ended = [];
-  ended_so = All-nil (IsOf wire);
+  ended_so = All-nil (EndedOn wire);
   missing = refl;
   count = omega (arith, count);
   told_once = subst (IsPermutation telling) (sym (append-nil (telling_in new))) once;
@@ -52,8 +52,8 @@ status_one true false before after e h = cc
 status_one false true before after e h = cc
 status_one false false before after e h = h
 
-lets_end : {S : Type 0} (wire : Wire S) (mine others : List Answer) (pending absent status : ℕ) (failed : Bool) (new : Server S) → AreHeld wire new.queue.items
-    → (e : Ended) → IsOf wire e → told_on e ≡ mine → failed ≡ has_failed e → absent_in (e ∷ []) ≡ absent → telling_in new ≡ others → pending_in new + 1 ≡ pending → new.status ≡ (if failed then 3 else status)
+lets_end : {S : Type 0} (wire : Wire S) (mine others : List GivenReply) (pending absent status : ℕ) (failed : Bool) (new : Server S) → AreHeld wire new.queue.items
+    → (e : Ended) → EndedOn wire e → told_on e ≡ mine → failed ≡ has_failed e → absent_in (e ∷ []) ≡ absent → telling_in new ≡ others → pending_in new + 1 ≡ pending → new.status ≡ (if failed then 3 else status)
     → Lets wire (mine ++ others) pending absent status new
 lets_end wire mine others pending absent status failed new held e so is fails gone same count told =
     let alone : told_in (e ∷ []) ≡ mine = append-nil (told_on e) ∙ is in
@@ -61,7 +61,7 @@ lets_end wire mine others pending absent status failed new held e so is fails go
     record {
       held = held;
       ended = e ∷ [];
-      ended_so = All-cons (IsOf wire) e [] so (All-nil (IsOf wire));
+      ended_so = All-cons (EndedOn wire) e [] so (All-nil (EndedOn wire));
       missing = gone;
       count = omega (arith, count);
       told_once = once;
@@ -69,14 +69,14 @@ lets_end wire mine others pending absent status failed new held e so is fails go
     }
 
 -- a client came on it
-pub lets_one : {S : Type 0} (wire : Wire S) (mine others : List Answer) (pending status : ℕ) (failed : Bool) (new : Server S) → AreHeld wire new.queue.items
+pub lets_one : {S : Type 0} (wire : Wire S) (mine others : List GivenReply) (pending status : ℕ) (failed : Bool) (new : Server S) → AreHeld wire new.queue.items
     → EndsAs wire mine failed → telling_in new ≡ others → pending_in new + 1 ≡ pending → new.status ≡ (if failed then 3 else status)
     → Lets wire (mine ++ others) pending 0 status new
 lets_one wire mine others pending status failed new held end same count told =
     lets_end wire mine others pending 0 status failed new held end.0 end.1 end.2 end.3 (rw end.4 refl) same count told
 
 -- a client could not be let in
-pub lets_absent : {S : Type 0} (wire : Wire S) (others : List Answer) (pending status : ℕ) (new : Server S) → AreHeld wire new.queue.items
+pub lets_absent : {S : Type 0} (wire : Wire S) (others : List GivenReply) (pending status : ℕ) (new : Server S) → AreHeld wire new.queue.items
     → telling_in new ≡ others → pending_in new + 1 ≡ pending → new.status ≡ 3 → Lets wire others pending 1 status new
 lets_absent wire others pending status new held same count told =
     lets_end wire [] others pending 1 status true new held Absent tt refl refl refl same count told
@@ -95,12 +95,12 @@ all_absent : (n : ℕ) → absent_in (replicate n Absent) ≡ n
 all_absent zero = refl
 all_absent (suc n) = omega (arith, sum_by-cons (λ e. cond (is_absent e) 1 0) Absent (replicate n Absent), all_absent n)
 
-pub lets_all_absent : {S : Type 0} (wire : Wire S) (telling : List Answer) (left count status : ℕ) (new : Server S) → AreHeld wire new.queue.items
+pub lets_all_absent : {S : Type 0} (wire : Wire S) (telling : List GivenReply) (left count status : ℕ) (new : Server S) → AreHeld wire new.queue.items
     → 0 < left → telling_in new ≡ telling → length new.queue.items ≡ count → new.left ≡ 0 → new.status ≡ 3 → Lets wire telling (count + left) left status new
 lets_all_absent wire telling left count status new held some same here none told = record {
   held = held;
   ended = replicate left Absent;
-  ended_so = All-replicate (IsOf wire) left Absent tt;
+  ended_so = All-replicate (EndedOn wire) left Absent tt;
   missing = all_absent left;
   count = omega (arith, length-replicate left Absent, here, none);
   told_once = rw (absent_tell_nothing left, append-nil, same) (IsPermutation-refl telling);
@@ -120,12 +120,12 @@ lets_kept wire old new held items left told =
     lets_none wire (telling_in old) (pending_in old) old.status new (subst (AreHeld wire) (sym items) held) (omega (arith, ap length items, left))
     (subst (IsPermutation (telling_in old)) (sym (ap telling_to items)) (IsPermutation-refl (telling_in old))) told
 
-pub lets_from : {S : Type 0} (wire : Wire S) (telling other : List Answer) (pending count absent status : ℕ) (new : Server S) → telling ≡ other → pending ≡ count
+pub lets_from : {S : Type 0} (wire : Wire S) (telling other : List GivenReply) (pending count absent status : ℕ) (new : Server S) → telling ≡ other → pending ≡ count
     → Lets wire telling pending absent status new → Lets wire other count absent status new
 lets_from wire telling other pending count absent status new same counts h =
     subst (λ n. Lets wire other n absent status new) counts (subst (λ l. Lets wire l pending absent status new) same h)
 
-pub lets_as : {S : Type 0} (wire : Wire S) (telling : List Answer) (pending absent status : ℕ) (new other : Server S)
+pub lets_as : {S : Type 0} (wire : Wire S) (telling : List GivenReply) (pending absent status : ℕ) (new other : Server S)
     → Lets wire telling pending absent status new → Becomes new other → Lets wire telling pending absent status other
 lets_as wire telling pending absent status new other h same = record {
   held = subst (λ q. AreHeld wire q.items) (sym same.queue) h.held;
@@ -138,12 +138,12 @@ lets_as wire telling pending absent status new other h same = record {
 }
 
 -- with some more that were left out of the first
-pub lets_then_more : {S : Type 0} (wire : Wire S) (telling : List Answer) (pending more one two status : ℕ) (mid new : Server S)
+pub lets_then_more : {S : Type 0} (wire : Wire S) (telling : List GivenReply) (pending more one two status : ℕ) (mid new : Server S)
     → Lets wire telling pending one status mid → Lets wire (telling_in mid) (pending_in mid + more) two mid.status new → Lets wire telling (pending + more) (two + one) status new
 lets_then_more wire telling pending more one two status mid new first second = record {
   held = second.held;
   ended = second.ended ++ first.ended;
-  ended_so = All-append (IsOf wire) second.ended first.ended second.ended_so first.ended_so;
+  ended_so = All-append (EndedOn wire) second.ended first.ended second.ended_so first.ended_so;
   missing = omega (arith, absent_in-append second.ended first.ended, first.missing, second.missing);
   count = omega (arith, first.count, second.count, length-append second.ended first.ended);
   told_once =
@@ -156,14 +156,14 @@ lets_then_more wire telling pending more one two status mid new first second = r
       ∙ ap (λ b. if b then 3 else status) (sym (list_any-append has_failed second.ended first.ended));
 }
 
-pub lets_then : {S : Type 0} (wire : Wire S) (telling : List Answer) (pending one two status : ℕ) (mid new : Server S)
+pub lets_then : {S : Type 0} (wire : Wire S) (telling : List GivenReply) (pending one two status : ℕ) (mid new : Server S)
     → Lets wire telling pending one status mid → Lets wire (telling_in mid) (pending_in mid) two mid.status new → Lets wire telling pending (two + one) status new
 lets_then wire telling pending one two status mid new first second =
     let none : (n : ℕ) → n + 0 ≡ n = λ n. omega arith in
     subst (λ n. Lets wire telling n (two + one) status new) (none pending)
     (lets_then_more wire telling pending 0 one two status mid new first (subst (λ n. Lets wire (telling_in mid) n two mid.status new) (sym (none (pending_in mid))) second))
 
-pub lets_of : {S : Type 0} (wire : Wire S) (telling other : List Answer) (pending absent status : ℕ) (new : Server S) → IsPermutation other telling
+pub lets_of : {S : Type 0} (wire : Wire S) (telling other : List GivenReply) (pending absent status : ℕ) (new : Server S) → IsPermutation other telling
     → Lets wire telling pending absent status new → Lets wire other pending absent status new
 lets_of wire telling other pending absent status new same h = record {
   held = h.held;
@@ -177,17 +177,17 @@ lets_of wire telling other pending absent status new same h = record {
 
 -- ---- the server
 
-pub lets_go_on : {K S Left : Type 0} (meaning : Meaning K Register Left StoreFault) (wire : Wire S) (start keep : K) (telling : List Answer) (tally : Tally) (more : ℕ) (noted : List Note) (new : Server S)
-    → IsServing meaning (IsOf wire) start keep telling tally → Lets wire telling tally.pending more tally.status new → tally.notes ≡ noted ++ new.service.notes.items
+pub lets_go_on : {K S Left : Type 0} (meaning : Meaning K Register Left StoreFault) (wire : Wire S) (start keep : K) (telling : List GivenReply) (tally : Tally) (more : ℕ) (noted : List Note) (new : Server S)
+    → IsServing meaning (EndedOn wire) start keep telling tally → Lets wire telling tally.pending more tally.status new → tally.notes ≡ noted ++ new.service.notes.items
     → GoesOnAs meaning wire start keep tally.connections (more + tally.absent) noted new
 lets_go_on meaning wire start keep telling tally more noted new h lets notes =
-    subst (λ l. IsServing meaning (IsOf wire) start keep (telling_in new) (record (tally_in tally.connections (more + tally.absent) noted new) { notes = l })) notes
-    (subst (λ n. IsServing meaning (IsOf wire) start keep (telling_in new) (record { connections = tally.connections; pending = pending_in new; absent = more + tally.absent; status = n; notes = tally.notes })) (sym lets.told)
-    (ends meaning (IsOf wire) start keep telling (telling_in new) tally (pending_in new) more lets.ended h lets.ended_so lets.count lets.missing lets.told_once))
+    subst (λ l. IsServing meaning (EndedOn wire) start keep (telling_in new) (record (tally_in tally.connections (more + tally.absent) noted new) { notes = l })) notes
+    (subst (λ n. IsServing meaning (EndedOn wire) start keep (telling_in new) (record { connections = tally.connections; pending = pending_in new; absent = more + tally.absent; status = n; notes = tally.notes })) (sym lets.told)
+    (ends meaning (EndedOn wire) start keep telling (telling_in new) tally (pending_in new) more lets.ended h lets.ended_so lets.count lets.missing lets.told_once))
 
 -- of those that ended a client came on each
-pub lets_go_same : {K S Left : Type 0} (meaning : Meaning K Register Left StoreFault) (wire : Wire S) (start keep : K) (telling : List Answer) (tally : Tally) (noted : List Note) (new : Server S)
-    → IsServing meaning (IsOf wire) start keep telling tally → Lets wire telling tally.pending 0 tally.status new → tally.notes ≡ noted ++ new.service.notes.items
+pub lets_go_same : {K S Left : Type 0} (meaning : Meaning K Register Left StoreFault) (wire : Wire S) (start keep : K) (telling : List GivenReply) (tally : Tally) (noted : List Note) (new : Server S)
+    → IsServing meaning (EndedOn wire) start keep telling tally → Lets wire telling tally.pending 0 tally.status new → tally.notes ≡ noted ++ new.service.notes.items
     → GoesOnAs meaning wire start keep tally.connections tally.absent noted new
 lets_go_same meaning wire start keep telling tally noted new h lets notes =
     let same : 0 + tally.absent ≡ tally.absent = omega arith in
@@ -211,7 +211,7 @@ pub record IsTaken {S : Type 0} (wire : Wire S) (clients : List (Client S)) (cli
   pub once : IsPermutation (telling_to clients) (telling client.phase ++ telling_to rest)
   pub count : length clients ≡ length rest + 1
 
-moved : (a b c : List Answer) → IsPermutation (a ++ (b ++ c)) (b ++ (a ++ c))
+moved : (a b c : List GivenReply) → IsPermutation (a ++ (b ++ c)) (b ++ (a ++ c))
 moved a b c =
     subst (IsPermutation (a ++ (b ++ c))) (append_assoc b a c)
     (subst (λ l. IsPermutation l ((b ++ a) ++ c)) (append_assoc a b c) (IsPermutation-append_left c (a ++ b) (b ++ a) (IsPermutation-append_comm a b)))
@@ -241,23 +241,23 @@ taken wire (c ∷ rest) (suc i) client lt is held =
 
 pub in_hand : {K S Left : Type 0} (meaning : Meaning K Register Left StoreFault) (wire : Wire S) (start keep : K) (connections absent : ℕ) (noted : List Note) (client : Client S) (rest : List (Client S)) (old : Server S)
     → old.queue.items ≡ client ∷ rest → GoesOnAs meaning wire start keep connections absent noted old
-    → IsServing meaning (IsOf wire) start keep (telling client.phase ++ telling_to rest) (record (tally_in connections absent noted old) { pending = length rest + old.left + 1 })
+    → IsServing meaning (EndedOn wire) start keep (telling client.phase ++ telling_to rest) (record (tally_in connections absent noted old) { pending = length rest + old.left + 1 })
 in_hand meaning wire start keep connections absent noted client rest old is h =
     let count : pending_in old ≡ length rest + old.left + 1 = omega (arith, ap length is) in
-    subst (λ n. IsServing meaning (IsOf wire) start keep (telling client.phase ++ telling_to rest) (record (tally_in connections absent noted old) { pending = n })) count
-    (subst (λ l. IsServing meaning (IsOf wire) start keep l (tally_in connections absent noted old)) (ap telling_to is) h)
+    subst (λ n. IsServing meaning (EndedOn wire) start keep (telling client.phase ++ telling_to rest) (record (tally_in connections absent noted old) { pending = n })) count
+    (subst (λ l. IsServing meaning (EndedOn wire) start keep l (tally_in connections absent noted old)) (ap telling_to is) h)
 
 -- some notes were told of those that were not
 pub becomes_at : {K S Left : Type 0} (meaning : Meaning K Register Left StoreFault) (wire : Wire S) (start keep : K) (connections absent : ℕ) (noted told : List Note) (old new : Server S)
     → GoesOnAs meaning wire start keep connections absent noted old → Becomes old new → told ≡ old.service.notes.items → new.service.notes.items ≡ [] → GoesOnAs meaning wire start keep connections absent (noted ++ told) new
 becomes_at meaning wire start keep connections absent noted told old new h same all none =
     let notes : noted ++ old.service.notes.items ≡ (noted ++ told) ++ new.service.notes.items = rw (all, none) (sym (append-nil (noted ++ old.service.notes.items))) in
-    rw (same.queue, same.left, same.status) (subst (λ l. IsServing meaning (IsOf wire) start keep (telling_in old) (record (tally_in connections absent noted old) { notes = l })) notes h)
+    rw (same.queue, same.left, same.status) (subst (λ l. IsServing meaning (EndedOn wire) start keep (telling_in old) (record (tally_in connections absent noted old) { notes = l })) notes h)
 
 pub begun : {K S Left : Type 0} (meaning : Meaning K Register Left StoreFault) (wire : Wire S) (keep : K) (connections : ℕ) (server : Server S)
     → server.queue.items ≡ [] → server.left ≡ connections → server.status ≡ 0 → server.service.notes.items ≡ [] → GoesOnAs meaning wire keep keep connections 0 [] server
 begun meaning wire keep connections server none all told silent =
-    let Is = IsOf wire in
+    let Is = EndedOn wire in
     let count : connections ≡ pending_in server = omega (arith, ap length none, all) in
     let nobody : [] ≡ telling_in server = sym (ap telling_to none) in
     subst (λ l. IsServing meaning Is keep keep (telling_in server) (record (tally_in connections 0 [] server) { notes = l })) (sym silent)
@@ -271,11 +271,11 @@ none_told (c ∷ rest) left e = absurd (omega (arith, e))
 
 pub finished : {K S Left : Type 0} (meaning : Meaning K Register Left StoreFault) (wire : Wire S) (start keep : K) (connections absent : ℕ) (noted : List Note) (server : Server S)
     → GoesOnAs meaning wire start keep connections absent noted server → pending_in server ≡ 0
-    → (served : IsServedAs meaning (IsOf wire) start keep connections server.status) × (served.absent ≡ absent) × (served.notes ≡ noted ++ server.service.notes.items)
+    → (served : IsServedAs meaning (EndedOn wire) start keep connections server.status) × (served.absent ≡ absent) × (served.notes ≡ noted ++ server.service.notes.items)
 finished meaning wire start keep connections absent noted server h none =
-    all_served meaning (IsOf wire) start keep connections absent server.status (noted ++ server.service.notes.items)
-    (subst (λ n. IsServing meaning (IsOf wire) start keep [] (record (tally_in connections absent noted server) { pending = n })) none
-    (subst (λ l. IsServing meaning (IsOf wire) start keep l (tally_in connections absent noted server)) (none_told server.queue.items server.left none) h))
+    all_served meaning (EndedOn wire) start keep connections absent server.status (noted ++ server.service.notes.items)
+    (subst (λ n. IsServing meaning (EndedOn wire) start keep [] (record (tally_in connections absent noted server) { pending = n })) none
+    (subst (λ l. IsServing meaning (EndedOn wire) start keep l (tally_in connections absent noted server)) (none_told server.queue.items server.left none) h))
 
 -- ---- which client gives way
 

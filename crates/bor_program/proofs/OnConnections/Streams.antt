@@ -7,7 +7,7 @@ use Rattle.bor_http.specs.Incoming.Message.{request_limit}
 use Rattle.bor_http.specs.Incoming.Progress.{IsWhole}
 use Rattle.bor_http.proofs.OnIncoming.ProgressLemmas.{missing}
 use Rattle.bor_program.specs.Connections.Limits.{rest_limit}
-use Rattle.bor_program.specs.Connections.Serving.{Answer}
+use Rattle.bor_program.specs.Connections.Serving.{GivenReply}
 use Rattle.bor_program.specs.Connections.Streams.{Came, Drops, IsDraining, IsReady, IsReplySent, IsUnanswered, IsWriting, Wire}
 
 consumes_nothing : (known : Option (List ℕ)) → Consumes known known []
@@ -63,7 +63,7 @@ not_reached needed count len is_whole both isnt same = elim (cases_lt count need
 -- ---- a reply
 
 -- nothing of it was written yet
-pub begins_writing : {S : Type 0} (wire : Wire S) (stream : S) (answer : Answer) → Came wire.remaining stream answer.request → length answer.request ≤ request_limit → IsReady wire.remaining stream answer
+pub begins_writing : {S : Type 0} (wire : Wire S) (stream : S) (answer : GivenReply) → Came wire.remaining stream answer.request → length answer.request ≤ request_limit → IsReady wire.remaining stream answer
     → IsWriting wire stream answer 0
 begins_writing wire stream answer came fits ready =
     record { read = stream; came = came; fits = fits; ready = ready; within = omega arith; written = appends_nothing (wire.contents stream) answer.reply }
@@ -71,12 +71,12 @@ begins_writing wire stream answer came fits ready =
 -- ---- behind a reply
 
 -- nothing was read yet
-pub drains_none : {S : Type 0} (wire : Wire S) (stream : S) (answer : Answer) (sent left : ℕ) → sent ≡ length answer.reply → left ≡ rest_limit
+pub drains_none : {S : Type 0} (wire : Wire S) (stream : S) (answer : GivenReply) (sent left : ℕ) → sent ≡ length answer.reply → left ≡ rest_limit
     → IsWriting wire stream answer sent → IsDraining wire stream answer left
 drains_none wire stream answer sent left whole all h =
     record { written = stream; told = subst (IsWriting wire stream answer) whole h; dropped = ([], consumes_nothing (wire.remaining stream), omega (arith, all)) }
 
-pub drains_more : {S : Type 0} (wire : Wire S) (old new : S) (answer : Answer) (before after : ℕ) → IsDraining wire old answer before
+pub drains_more : {S : Type 0} (wire : Wire S) (old new : S) (answer : GivenReply) (before after : ℕ) → IsDraining wire old answer before
     → Drops (wire.remaining old) (wire.remaining new) before after → IsDraining wire new answer after
 drains_more wire old new answer before after h more =
     let first = h.dropped in
@@ -88,11 +88,11 @@ drains_more wire old new answer before after h more =
 
 -- ---- as the stream is let go
 
-pub told_writing : {S : Type 0} (wire : Wire S) (stream : S) (answer : Answer) (sent : ℕ) → IsWriting wire stream answer sent → IsReplySent wire answer sent
+pub told_writing : {S : Type 0} (wire : Wire S) (stream : S) (answer : GivenReply) (sent : ℕ) → IsWriting wire stream answer sent → IsReplySent wire answer sent
 told_writing wire stream answer sent h =
     record { written = stream; told = h; let_go = stream; dropped = []; behind = consumes_nothing (wire.remaining stream); bound = omega arith }
 
-pub told_draining : {S : Type 0} (wire : Wire S) (stream : S) (answer : Answer) (left : ℕ) → IsDraining wire stream answer left
+pub told_draining : {S : Type 0} (wire : Wire S) (stream : S) (answer : GivenReply) (left : ℕ) → IsDraining wire stream answer left
     → IsReplySent wire answer (length answer.reply)
 told_draining wire stream answer left h =
     let drops = h.dropped in

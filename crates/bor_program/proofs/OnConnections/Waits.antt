@@ -13,7 +13,7 @@ use Rattle.bor_program.specs.declared.connections.server.Server.{Server}
 use Rattle.std.proofs.lemmas.Bool.{cases_eq, cases_lt}
 use Rattle.bor_program.specs.declared.connections.phase.Phase.{Phase}
 use Rattle.bor_program.specs.declared.connections.phase.Phase.TheVariants.{Reading, Writing, Draining}
-use Rattle.bor_program.specs.Connections.Times.{IsLeft, IsPatient, IsReplyLeft, left_of}
+use Rattle.bor_program.specs.Connections.Times.{IsTimeLeft, IsPatient, IsReplyLeft, left_of}
 use Rattle.bor_program.specs.Connections.Servers.{AreWaitedFor, IsAtOnce, IsNoLonger, IsWaitedFor, Waiting}
 
 same_wait : (old new : Option Duration) → new ≡ old → IsNoLonger old new
@@ -105,13 +105,13 @@ shorter_of old one wait result is first other =
     (λ before was. (result, refl, omega (arith, both.0, ap as_nanos (is ∙ ap (λ o. unwrap_or o wait) was))), both.1)
 
 -- the time of its phase has begun
-pub left_begun : {S : Type 0} (limits : Limits) (since begun : Option Duration) (phase : Phase S) (now left : Duration) → begun ≡ Some (unwrap_or since now) → IsLeft limits since phase now left → IsLeft limits begun phase now left
+pub left_begun : {S : Type 0} (limits : Limits) (since begun : Option Duration) (phase : Phase S) (now left : Duration) → begun ≡ Some (unwrap_or since now) → IsTimeLeft limits since phase now left → IsTimeLeft limits begun phase now left
 left_begun limits since begun (Reading r) now left is h = h ∙ sym (ap (λ o. left_of limits.request o now) is)
 left_begun limits since begun (Writing w) now left is h = h
 left_begun limits since begun (Draining d) now left is h = h ∙ sym (ap (λ o. left_of limits.rest o now) is)
 
 -- a client is waited for no longer than the limits
-left_within : {S : Type 0} (limits : Limits) (since : Option Duration) (phase : Phase S) (now left : Duration) → IsLeft limits since phase now left → IsPatient limits (Some left)
+left_within : {S : Type 0} (limits : Limits) (since : Option Duration) (phase : Phase S) (now left : Duration) → IsTimeLeft limits since phase now left → IsPatient limits (Some left)
 left_within limits since (Reading r) now left h = inl (omega (arith, h))
 left_within limits since (Writing w) now left h = inr (inl (reply_within w.taking h))
   where

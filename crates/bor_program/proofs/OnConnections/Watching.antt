@@ -8,7 +8,7 @@ use Rattle.std.proofs.lemmas.List.Folds.{list_any-append}
 use Rattle.std.proofs.lemmas.List.Sums.{sum_by-append}
 use Rattle.std.specs.declared.time.Duration.{Duration}
 use Rattle.bor_program.specs.declared.log.Note.{Note}
-use Rattle.bor_program.specs.Connections.Watching.{Act, Accepts, AreDone, AreTold, Coming, Does, IsOver, Listens, Notes, OnWait, Waits, Watches, WaitsOnce, faults_after, faults_with, is_deaf, is_refusal, is_wait, notes_in, notes_of, refused_in, waits_in}
+use Rattle.bor_program.specs.Connections.Watching.{Act, Accepts, AreDone, AreTold, Coming, DoesUnwaiting, IsOver, Listens, Notes, OnWait, Waits, Watches, WaitsOnce, faults_after, faults_with, is_deaf, is_refusal, is_wait, notes_in, notes_of, refused_in, waits_in}
 
 pub refused-append : (xs ys : List Act) → refused_in (xs ++ ys) ≡ refused_in xs + refused_in ys
 refused-append xs ys = sum_by-append (λ act. cond (is_refusal act) 1 0) xs ys
@@ -47,10 +47,10 @@ unwaited P acts h = waits_weaker (λ limit. ⊥) P (λ limit none. absurd none) 
 
 -- ---- without a wait
 
-pub does_none : {W : Type 0} (does : W → Act → W → Type 0) (watch : W) → Does does watch watch 0 []
+pub does_none : {W : Type 0} (does : W → Act → W → Type 0) (watch : W) → DoesUnwaiting does watch watch 0 []
 does_none does watch = record { acts = []; done = refl; refusals = refl; waits = refl; faults = λ before. refl; unwaited = All-nil (OnWait (λ limit. ⊥)); noted = refl }
 
-pub does_then : {W : Type 0} (does : W → Act → W → Type 0) (old mid new : W) (one two : ℕ) (first second : List Note) → Does does old mid one first → Does does mid new two second → Does does old new (two + one) (first ++ second)
+pub does_then : {W : Type 0} (does : W → Act → W → Type 0) (old mid new : W) (one two : ℕ) (first second : List Note) → DoesUnwaiting does old mid one first → DoesUnwaiting does mid new two second → DoesUnwaiting does old new (two + one) (first ++ second)
 does_then does old mid new one two first second h k = record {
   acts = h.acts ++ k.acts;
   done = done-append does old mid new h.acts k.acts h.done k.done;
@@ -61,12 +61,12 @@ does_then does old mid new one two first second h k = record {
   noted = notes-append h.acts k.acts ∙ ap (λ l. l ++ notes_in k.acts) h.noted ∙ ap (λ l. first ++ l) k.noted;
 }
 
-pub does_notes : {W : Type 0} (does : W → Act → W → Type 0) (old new : W) (note : Note) → does old (Notes note) new → Does does old new 0 (note ∷ [])
+pub does_notes : {W : Type 0} (does : W → Act → W → Type 0) (old new : W) (note : Note) → does old (Notes note) new → DoesUnwaiting does old new 0 (note ∷ [])
 does_notes does old new note h = record { acts = Notes note ∷ []; done = (new, h, refl); refusals = refl; waits = refl; faults = λ before. refl; unwaited = one_act (λ limit. ⊥) (Notes note) tt; noted = refl }
 
 -- notes are told without a wait, and none is of a client that could not be let in
-pub does_tells : {W : Type 0} (does : W → Act → W → Type 0) (old new : W) (notes : List Note) → AreTold does old notes new → Does does old new 0 notes
-does_tells does old new [] h = subst (λ w. Does does old w 0 []) (sym h) (does_none does old)
+pub does_tells : {W : Type 0} (does : W → Act → W → Type 0) (old new : W) (notes : List Note) → AreTold does old notes new → DoesUnwaiting does old new 0 notes
+does_tells does old new [] h = subst (λ w. DoesUnwaiting does old w 0 []) (sym h) (does_none does old)
 does_tells does old new (note ∷ notes) h =
     does_then does old h.0 new 0 0 (note ∷ []) notes (does_notes does old h.0 note h.1) (does_tells does h.0 new notes h.2)
 
@@ -77,15 +77,15 @@ told_more does old mid new notes note h k =
     subst (λ acts. AreDone does old acts new) (sym (map-append Notes notes (note ∷ [])))
     (done-append does old mid new (map Notes notes) (Notes note ∷ []) h (new, k, refl))
 
-pub does_watches : {W : Type 0} (does : W → Act → W → Type 0) (old new : W) (failed : Bool) → does old (Watches failed) new → Does does old new 0 []
+pub does_watches : {W : Type 0} (does : W → Act → W → Type 0) (old new : W) (failed : Bool) → does old (Watches failed) new → DoesUnwaiting does old new 0 []
 does_watches does old new failed h = record { acts = Watches failed ∷ []; done = (new, h, refl); refusals = refl; waits = refl; faults = λ before. refl; unwaited = one_act (λ limit. ⊥) (Watches failed) tt; noted = refl }
 
-pub does_accepts : {W : Type 0} (does : W → Act → W → Type 0) (old new : W) (came : Coming) → does old (Accepts came) new → Does does old new (refused_in (Accepts came ∷ [])) []
+pub does_accepts : {W : Type 0} (does : W → Act → W → Type 0) (old new : W) (came : Coming) → does old (Accepts came) new → DoesUnwaiting does old new (refused_in (Accepts came ∷ [])) []
 does_accepts does old new came h = record { acts = Accepts came ∷ []; done = (new, h, refl); refusals = refl; waits = refl; faults = λ before. refl; unwaited = one_act (λ limit. ⊥) (Accepts came) tt; noted = refl }
 
 -- ---- a wait
 
-pub waits_once : {W : Type 0} (does : W → Act → W → Type 0) (old told new : W) (limit : Option Duration) (failed : Bool) (before now : ℕ) (notes : List Note) → Does does old told 0 notes → does told (Waits limit failed) new → faults_with before (Waits limit failed) ≡ now
+pub waits_once : {W : Type 0} (does : W → Act → W → Type 0) (old told new : W) (limit : Option Duration) (failed : Bool) (before now : ℕ) (notes : List Note) → DoesUnwaiting does old told 0 notes → does told (Waits limit failed) new → faults_with before (Waits limit failed) ≡ now
     → WaitsOnce does old new before now notes limit
 waits_once does old told new limit failed before now notes h once is =
     let last : List Act = Waits limit failed ∷ [] in

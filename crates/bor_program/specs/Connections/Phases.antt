@@ -8,13 +8,13 @@ use Rattle.bor_program.specs.declared.connections.phase.Phase.{Phase}
 use Rattle.bor_program.specs.declared.connections.phase.Phase.TheVariants as phase
 use Rattle.bor_program.specs.declared.connections.phase.Step.{Step}
 use Rattle.bor_program.specs.declared.connections.phase.Step.TheVariants as step
-use Rattle.bor_program.specs.Connections.Serving.{Answer, Ended, IsServing, Tally, answer_of}
+use Rattle.bor_program.specs.Connections.Serving.{GivenReply, Ended, IsServing, Tally, answer_of}
 use Rattle.bor_program.specs.Connections.Serving.{has_failed, is_absent, told_on}
-use Rattle.bor_program.specs.Connections.Streams.{IsDraining, IsOf, IsReading, IsWriting, KeepsAll}
-use Rattle.bor_program.specs.Connections.Streams.{Wire}
+use Rattle.bor_program.specs.Connections.Streams.{EndedOn, IsDraining, IsReading, IsWriting}
+use Rattle.bor_program.specs.Connections.Streams.{KeepsAll, Wire}
 
 -- the answer that is being sent to a client
-abbrev pub telling : {S : Type 0} → Phase S → List Answer
+abbrev pub telling : {S : Type 0} → Phase S → List GivenReply
 telling (phase.Reading reading) = []
 telling (phase.Writing writing) = answer_of writing.request.value.items writing.reply ∷ []
 telling (phase.Draining draining) = answer_of draining.request.value.items draining.reply ∷ []
@@ -50,19 +50,19 @@ phase_of (step.Goes at pace) = at
 phase_of (step.Ends at) = at
 
 -- a connection ended on which a client had come, and this answer was being sent, and failed or not
-abbrev pub EndsAs : {S : Type 0} → Wire S → List Answer → Bool → Type 0
+abbrev pub EndsAs : {S : Type 0} → Wire S → List GivenReply → Bool → Type 0
 EndsAs wire told failed =
-    (e : Ended) × IsOf wire e × (told_on e ≡ told) × (failed ≡ has_failed e)
+    (e : Ended) × EndedOn wire e × (told_on e ≡ told) × (failed ≡ has_failed e)
     × (is_absent e ≡ false)
 
 -- where a client stands: the keep, the answer that is being sent to it, and the notes that were
 -- made and are not told yet
 pub record Stand (K : Type 0) : Type 0 where
   pub keep : K
-  pub told : List Answer
+  pub told : List GivenReply
   pub notes : List Note
 
-abbrev pub stand_at : {K : Type 0} → K → List Answer → List Note → Stand K
+abbrev pub stand_at : {K : Type 0} → K → List GivenReply → List Note → Stand K
 stand_at keep told notes = record { keep = keep; told = told; notes = notes }
 
 -- a client's step is one of the server, whatever it has done before and whichever other clients
@@ -70,8 +70,8 @@ stand_at keep told notes = record { keep = keep; told = told; notes = notes }
 abbrev pub IsStep : {K S Left : Type 0} → Meaning K Register Left StoreFault → Wire S
     → Stand K → Stand K → Type 0
 IsStep {K} meaning wire this that =
-    (start : K) (others : List Answer) (tally : Tally) (noted : List Note)
-    → IsServing meaning (IsOf wire) start this.keep (this.told ++ others)
+    (start : K) (others : List GivenReply) (tally : Tally) (noted : List Note)
+    → IsServing meaning (EndedOn wire) start this.keep (this.told ++ others)
     (record tally { notes = noted ++ this.notes })
-    → IsServing meaning (IsOf wire) start that.keep (that.told ++ others)
+    → IsServing meaning (EndedOn wire) start that.keep (that.told ++ others)
     (record tally { notes = noted ++ that.notes })

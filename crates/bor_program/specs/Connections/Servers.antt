@@ -18,19 +18,21 @@ use Rattle.bor_program.specs.declared.connections.server.Server.{Server}
 use Rattle.bor_program.specs.declared.connections.watch.Places.{Places}
 use Rattle.bor_program.specs.declared.log.Note.{Note}
 use Rattle.bor_program.specs.Courses.{Course}
-use Rattle.bor_program.specs.Connections.Serving.{Answer, Ended, IsServing, Tally, absent_in}
+use Rattle.bor_program.specs.Connections.Serving.{GivenReply, Ended, IsServing, Tally, absent_in}
 use Rattle.bor_program.specs.Connections.Serving.{has_failed, told_in}
-use Rattle.bor_program.specs.Connections.Streams.{IsOf, Wire}
+use Rattle.bor_program.specs.Connections.Streams.{EndedOn, Wire}
 use Rattle.bor_program.specs.Connections.Phases.{IsHeld, ReadsOn, telling}
 use Rattle.bor_program.specs.Connections.Places.{is_place_taken, is_ready, taken_in}
-use Rattle.bor_program.specs.Connections.Times.{IsIdleSince, IsLeft, IsOverdue, IsPatient}
-use Rattle.bor_program.specs.Connections.Times.{IsTaking, IsTimeUp, fresh, looked, moves_of}
-use Rattle.bor_program.specs.Connections.Watching.{Act, AreDone, Does, IsOver, OnWait, faults_after}
-use Rattle.bor_program.specs.Connections.Watching.{is_asking, is_coming, is_unwatched, notes_in}
+use Rattle.bor_program.specs.Connections.Times.{IsIdleSince, IsTimeLeft, IsOverdue, IsPatient}
+use Rattle.bor_program.specs.Connections.Times.{IsTaking, IsTimeUp, fresh, moves_of}
+use Rattle.bor_program.specs.Connections.Times.{taking_once_read}
+use Rattle.bor_program.specs.Connections.Watching.{Act, AreDone, DoesUnwaiting, IsOver, OnWait}
+use Rattle.bor_program.specs.Connections.Watching.{faults_after, is_asking, is_coming}
+use Rattle.bor_program.specs.Connections.Watching.{is_unwatched, notes_in}
 use Rattle.bor_program.specs.Connections.Watching.{refused_in, waits_in}
 
 -- the answers that are being sent to these clients
-abbrev pub telling_to : {S : Type 0} → List (Client S) → List Answer
+abbrev pub telling_to : {S : Type 0} → List (Client S) → List GivenReply
 telling_to [] = []
 telling_to (client ∷ rest) = telling client.phase ++ telling_to rest
 
@@ -39,7 +41,7 @@ abbrev pub AreHeld : {S : Type 0} → Wire S → List (Client S) → Type 0
 AreHeld wire [] = Unit {0}
 AreHeld wire (client ∷ rest) = IsHeld wire client.phase × AreHeld wire rest
 
-abbrev pub telling_in : {S : Type 0} → Server S → List Answer
+abbrev pub telling_in : {S : Type 0} → Server S → List GivenReply
 telling_in server = telling_to server.queue.items
 
 -- how many connections have not ended
@@ -70,7 +72,7 @@ AreSeated taken (client ∷ rest) =
     (is_place_taken taken client.place ≡ true) × AreSeated (set taken client.place false) rest
 
 -- this client has come in now, and nothing was read of it
-pub record IsNew {S : Type 0} (now : Duration) (client : Client S) : Type 0 where
+pub record HasComeNow {S : Type 0} (now : Duration) (client : Client S) : Type 0 where
   pub reading : Reading S
   pub phase : client.phase ≡ phase.Reading reading
   pub received : reading.received.items ≡ []
@@ -80,7 +82,7 @@ pub record IsNew {S : Type 0} (now : Duration) (client : Client S) : Type 0 wher
 abbrev pub EndsWithNew : {S : Type 0} → Duration → List (Client S) → Type 0
 EndsWithNew {S} now clients =
     (others : List (Client S)) × (client : Client S)
-    × (clients ≡ others ++ client ∷ []) × IsNew now client
+    × (clients ≡ others ++ client ∷ []) × HasComeNow now client
 
 -- where these calls let a client in that can be watched, it has come in now, and is in its place
 pub record Welcomes {W S : Type 0} (calls : Course W Act) (now : Duration)
@@ -91,7 +93,7 @@ pub record Welcomes {W S : Type 0} (calls : Course W Act) (now : Duration)
       → EndsWithNew now clients
 
 -- these calls ask for who waits to come in
-pub record Asks {W : Type 0} (calls : Course W Act) : Type 0 where
+pub record AsksWhoComes {W : Type 0} (calls : Course W Act) : Type 0 where
   pub acts : List Act
   pub done : AreDone calls.does calls.begun acts calls.ended
   pub asks : list_any is_asking acts ≡ true
@@ -103,7 +105,7 @@ HasRoom server = deque_len server.queue < deque_capacity server.queue
 -- ---- the time of a client
 
 -- this client is put behind the others, which is sure where their queue has room for it
-pub record Stays {S : Type 0} (client : Client S) (old new : Server S) : Type 0 where
+pub record StaysInQueue {S : Type 0} (client : Client S) (old new : Server S) : Type 0 where
   pub either : (new.queue.items ≡ old.queue.items)
       ⊎ (new.queue.items ≡ old.queue.items ++ client ∷ [])
   pub room : HasRoom old → new.queue.items ≡ old.queue.items ++ client ∷ []
@@ -128,7 +130,7 @@ pub record IsTimely {S : Type 0} (now : Duration) (client : Client S)
 abbrev pub IsTimed : {S : Type 0} → Duration → Client S → Server S → Server S → Type 0
 IsTimed {S} now client old new =
     (last : Client S) → new.queue.items ≡ old.queue.items ++ last ∷ []
-    → IsTaking (looked client.phase now) last.phase
+    → IsTaking (taking_once_read client.phase now) last.phase
 
 -- the same, and of what was read of it nothing is forgotten
 abbrev pub IsReadOn : {S : Type 0} → (S → Option (List ℕ)) → Client S → Server S → Server S → Type 0
@@ -151,8 +153,8 @@ IsStill places client =
 
 -- these clients are those, and behind them the same one in its place, of which nothing was read and
 -- to which nothing was written
-abbrev pub IsBehind : {S : Type 0} → List (Client S) → Client S → List (Client S) → Type 0
-IsBehind {S} others client clients =
+abbrev pub IsQueuedBehind : {S : Type 0} → List (Client S) → Client S → List (Client S) → Type 0
+IsQueuedBehind {S} others client clients =
     (last : Client S) × (clients ≡ others ++ last ∷ []) × (last.place ≡ client.place)
     × (moves_of last.phase ≡ moves_of client.phase)
 
@@ -160,7 +162,7 @@ IsBehind {S} others client clients =
 abbrev pub Remains : {S : Type 0} → Duration → Client S → Server S → Server S → Type 0
 Remains now client old new =
     IsStill old.places client → (IsOverdue old.limits client.timing.since client.phase now → ⊥)
-    → HasRoom old → IsBehind old.queue.items client new.queue.items
+    → HasRoom old → IsQueuedBehind old.queue.items client new.queue.items
 
 -- the same of the first of these clients, where the time is known
 abbrev pub FirstRemains : {S : Type 0} → Option Duration → Server S → Server S → Type 0
@@ -168,11 +170,11 @@ FirstRemains {S} time old new =
     (now : Duration) (client : Client S) (rest : List (Client S)) → time ≡ Some now
     → old.queue.items ≡ client ∷ rest → IsStill old.places client
     → (IsOverdue old.limits client.timing.since client.phase now → ⊥)
-    → IsBehind rest client new.queue.items
+    → IsQueuedBehind rest client new.queue.items
 
 -- this client is among these in its place, and of it nothing was read, and nothing written to it
-abbrev pub IsAmong : {S : Type 0} → Client S → List (Client S) → Type 0
-IsAmong {S} client clients =
+abbrev pub IsSeatedAmong : {S : Type 0} → Client S → List (Client S) → Type 0
+IsSeatedAmong {S} client clients =
     (before : List (Client S)) × (behind : List (Client S)) × (last : Client S)
     × (clients ≡ before ++ last ∷ behind) × (last.place ≡ client.place)
     × (moves_of last.phase ≡ moves_of client.phase)
@@ -183,7 +185,7 @@ abbrev pub AllRemain : {S : Type 0} → Duration → Server S → List (Client S
 AllRemain now server clients later =
     All (λ client. IsStill server.places client
     → (IsOverdue server.limits client.timing.since client.phase now → ⊥)
-    → IsAmong client later) clients
+    → IsSeatedAmong client later) clients
 
 -- no place is named that wasn't
 abbrev pub NamesNone : Places → Places → Type 0
@@ -195,7 +197,7 @@ NamesNone old new = (place : ℕ) → is_ready old place ≡ false → is_ready 
 pub record IsWaitedFor {S : Type 0} (limits : Limits) (now : Duration) (wait : Option Duration)
     (client : Client S) : Type 0 where
   pub left : Duration
-  pub lasts : IsLeft limits client.timing.since client.phase now left
+  pub lasts : IsTimeLeft limits client.timing.since client.phase now left
   pub time : Duration
   pub is : wait ≡ Some time
   pub within : as_nanos time ≤ as_nanos left
@@ -250,11 +252,11 @@ pub record Becomes {S : Type 0} (old new : Server S) : Type 0 where
 
 -- nothing was answered, and some connections ended, of those that had not ended when these answers
 -- were being sent; on so many of them no client came
-pub record Lets {S : Type 0} (wire : Wire S) (telling : List Answer)
+pub record Lets {S : Type 0} (wire : Wire S) (telling : List GivenReply)
     (pending absent status : ℕ) (new : Server S) : Type 0 where
   pub held : AreHeld wire new.queue.items
   pub ended : List Ended
-  pub ended_so : All (IsOf wire) ended
+  pub ended_so : All (EndedOn wire) ended
   pub missing : absent_in ended ≡ absent
   pub count : length ended + pending_in new ≡ pending
   pub told_once : IsPermutation telling (telling_in new ++ told_in ended)
@@ -277,7 +279,7 @@ tally_in connections absent noted server =
 abbrev pub GoesOnAs : {K S Left : Type 0} → Meaning K Register Left StoreFault → Wire S → K → K
     → (connections absent : ℕ) → List Note → Server S → Type 0
 GoesOnAs meaning wire start keep connections absent noted server =
-    IsServing meaning (IsOf wire) start keep (telling_in server)
+    IsServing meaning (EndedOn wire) start keep (telling_in server)
     (tally_in connections absent noted server)
 
 abbrev pub Advances : {K S Left : Type 0} → Meaning K Register Left StoreFault → Wire S → K → K
@@ -289,10 +291,10 @@ Advances {K} meaning wire old_keep new_keep old new =
 
 -- the server goes on so, with a client in hand that is being sent this
 abbrev pub Serves : {K S Left : Type 0} → Meaning K Register Left StoreFault → Wire S → K → K
-    → List Answer → Server S → Server S → Type 0
+    → List GivenReply → Server S → Server S → Type 0
 Serves {K} meaning wire old_keep new_keep mine old new =
     (start : K) (connections absent : ℕ) (noted : List Note)
-    → IsServing meaning (IsOf wire) start old_keep (mine ++ telling_in old)
+    → IsServing meaning (EndedOn wire) start old_keep (mine ++ telling_in old)
     (record (tally_in connections absent noted old) { pending = pending_in old + 1 })
     → GoesOnAs meaning wire start new_keep connections absent noted new
 
@@ -302,7 +304,7 @@ Serves {K} meaning wire old_keep new_keep mine old new =
 pub record LetsIn {W S : Type 0} (wire : Wire S) (calls : Course W Act)
     (old new : Server S) : Type 0 where
   pub refused : ℕ
-  pub done : Does calls.does calls.begun calls.ended refused []
+  pub done : DoesUnwaiting calls.does calls.begun calls.ended refused []
   pub lets : Lets wire (telling_in old) (pending_in old) refused old.status new
 
 -- where a server stands: the keep that it serves, its watch, and the server

@@ -22,17 +22,17 @@ use Rattle.bor_program.specs.Connections.Watching.{Act, AreDone, IsExcused, OnWa
 -- ---- answers
 
 -- a request that was answered: its bytes, and the status and the bytes of its reply
-pub record Answer : Type 0 where
+pub record GivenReply : Type 0 where
   pub request : List ℕ
   pub status : ℕ
   pub reply : List ℕ
 
-abbrev pub answer_of : List ℕ → Outgoing → Answer
+abbrev pub answer_of : List ℕ → Outgoing → GivenReply
 answer_of request out = record { request = request; status = status_out out; reply = bytes_out out }
 
 -- an answer, and the keep that it left
 pub record Answered (K : Type 0) : Type 0 where
-  pub answer : Answer
+  pub answer : GivenReply
   pub keep : K
 
 -- the exchange that it was, over bytes that are known
@@ -49,13 +49,13 @@ exchange_of a =
 abbrev pub exchanges_of : {K : Type 0} → List (Answered K) → List (Exchanged K)
 exchanges_of answered = map exchange_of answered
 
-abbrev pub answers_in : {K : Type 0} → List (Answered K) → List Answer
+abbrev pub answers_in : {K : Type 0} → List (Answered K) → List GivenReply
 answers_in answered = map (λ a. a.answer) answered
 
 -- ---- notes
 
 -- this note is of a request that had this answer
-pub record IsNoteOn (promised : (Register → Type 0) → Type 0) (answer : Answer)
+pub record IsNoteOn (promised : (Register → Type 0) → Type 0) (answer : GivenReply)
     (note : Note) : Type 0 where
   pub out : Outgoing
   pub is : answer ≡ answer_of answer.request out
@@ -80,7 +80,7 @@ pub data Ended : Type 0 where
   -- its client was given up before its request was answered; these bytes had come
   Unanswered : (request : List ℕ) → Ended
   -- so many bytes of the reply to its request were handed to its client
-  Told : (answer : Answer) → (sent : ℕ) → Ended
+  Told : (answer : GivenReply) → (sent : ℕ) → Ended
 
 -- a connection failed: its client has no whole reply, or the one that says that the store failed
 abbrev pub has_failed : Ended → Bool
@@ -102,12 +102,12 @@ abbrev pub status_of_server : List Ended → ℕ
 status_of_server ended = if list_any has_failed ended then 3 else 0
 
 -- the answer on it
-abbrev pub told_on : Ended → List Answer
+abbrev pub told_on : Ended → List GivenReply
 told_on Absent = []
 told_on (Unanswered request) = []
 told_on (Told answer sent) = answer ∷ []
 
-abbrev pub told_in : List Ended → List Answer
+abbrev pub told_in : List Ended → List GivenReply
 told_in [] = []
 told_in (e ∷ rest) = told_on e ++ told_in rest
 
@@ -128,7 +128,7 @@ pub record Tally : Type 0 where
 -- its store has returned what was written by then. Each answer is sent on one connection, and on no
 -- other. On so many no client came. `Is` holds of how each connection ended.
 pub record IsServing {K Left : Type 0} (meaning : Meaning K Register Left StoreFault)
-    (Is : Ended → Type 0) (old new : K) (telling : List Answer) (tally : Tally) : Type 0 where
+    (Is : Ended → Type 0) (old new : K) (telling : List GivenReply) (tally : Tally) : Type 0 where
   pub answered : List (Answered K)
   pub ended : List Ended
   pub count : length ended + tally.pending ≡ tally.connections

@@ -7,7 +7,7 @@ use Rattle.bor_http.specs.declared.incoming.progress.Progress.{Progress}
 use Rattle.bor_http.specs.Incoming.Message.{request_limit}
 use Rattle.bor_http.specs.Incoming.Progress.{IsProgress, IsWhole, needs}
 use Rattle.bor_program.specs.Connections.Limits.{rest_limit}
-use Rattle.bor_program.specs.Connections.Serving.{Answer, Ended, Absent, Unanswered, Told}
+use Rattle.bor_program.specs.Connections.Serving.{GivenReply, Ended, Absent, Unanswered, Told}
 
 -- What is known of streams: the bytes that may still be read of one, and those that were written to
 -- it.
@@ -52,14 +52,14 @@ pub record Received (known left : Option (List ℕ)) (old new : List ℕ) (room 
   pub ended : n ≡ 0 → IsAtEnd left
 
 -- the request is whole, or its client has ended it, or there was no memory for it
-abbrev pub IsReady : {S : Type 0} → (S → Option (List ℕ)) → S → Answer → Type 0
+abbrev pub IsReady : {S : Type 0} → (S → Option (List ℕ)) → S → GivenReply → Type 0
 IsReady remaining stream answer =
     IsWhole answer.request ⊎ (IsAtEnd (remaining stream) ⊎ (answer.status ≡ 503))
 
 -- The request was read from this very stream, is no longer than a request may be, and was ready
 -- when it was answered; and so many bytes of the reply to it, and nothing else, were written to the
 -- same stream since then.
-pub record IsWriting {S : Type 0} (wire : Wire S) (stream : S) (answer : Answer)
+pub record IsWriting {S : Type 0} (wire : Wire S) (stream : S) (answer : GivenReply)
     (sent : ℕ) : Type 0 where
   pub read : S
   pub came : Came wire.remaining read answer.request
@@ -75,7 +75,7 @@ Drops known left before after =
 
 -- The whole reply was written to this very stream; and what was read of it since then, and dropped,
 -- and what may still be read, are together as much as is read behind a reply.
-pub record IsDraining {S : Type 0} (wire : Wire S) (stream : S) (answer : Answer)
+pub record IsDraining {S : Type 0} (wire : Wire S) (stream : S) (answer : GivenReply)
     (left : ℕ) : Type 0 where
   pub written : S
   pub told : IsWriting wire written answer (length answer.reply)
@@ -83,7 +83,7 @@ pub record IsDraining {S : Type 0} (wire : Wire S) (stream : S) (answer : Answer
 
 -- So many bytes of the reply were written to the stream that its request was read from, and since
 -- then no more was read of it than is read behind a reply, until it was let go.
-pub record IsReplySent {S : Type 0} (wire : Wire S) (answer : Answer) (sent : ℕ) : Type 0 where
+pub record IsReplySent {S : Type 0} (wire : Wire S) (answer : GivenReply) (sent : ℕ) : Type 0 where
   pub written : S
   pub told : IsWriting wire written answer sent
   pub let_go : S
@@ -101,10 +101,10 @@ pub record IsUnanswered {S : Type 0} (remaining : S → Option (List ℕ))
   pub fits : length request ≤ request_limit
 
 -- a connection ended so, on a stream of these
-abbrev pub IsOf : {S : Type 0} → Wire S → Ended → Type 0
-IsOf wire Absent = ⊤
-IsOf wire (Unanswered request) = IsUnanswered wire.remaining request
-IsOf wire (Told answer sent) = IsReplySent wire answer sent
+abbrev pub EndedOn : {S : Type 0} → Wire S → Ended → Type 0
+EndedOn wire Absent = ⊤
+EndedOn wire (Unanswered request) = IsUnanswered wire.remaining request
+EndedOn wire (Told answer sent) = IsReplySent wire answer sent
 
 -- nothing can be read or written at the moment, and nothing failed
 abbrev pub IsBlocked : ErrorKind → Type 0

@@ -51,10 +51,10 @@ IsTaking taking (phase.Writing writing) = writing.taking ≡ taking
 IsTaking taking (phase.Draining draining) = ⊤
 
 -- and this once the clock is read, which begins the time of a reply that was made before
-abbrev pub looked : {S : Type 0} → Phase S → Duration → Option Taking
-looked (phase.Reading reading) now = None
-looked (phase.Writing writing) now = Some (taking_after writing.taking writing.sent now)
-looked (phase.Draining draining) now = None
+abbrev pub taking_once_read : {S : Type 0} → Phase S → Duration → Option Taking
+taking_once_read (phase.Reading reading) now = None
+taking_once_read (phase.Writing writing) now = Some (taking_after writing.taking writing.sent now)
+taking_once_read (phase.Draining draining) now = None
 
 -- so much of a limit is left, where its time began then, or begins now
 abbrev pub left_of : Duration → Option Duration → Duration → ℕ
@@ -83,12 +83,13 @@ IsReplyLeft limits (Some taking) sent now left =
     × (sent ≢ taking.taken → as_nanos left ≡ 0)
 
 -- a client in this phase may be waited for so long
-abbrev pub IsLeft : {S : Type 0} → Limits → Option Duration → Phase S → Duration → Duration → Type 0
-IsLeft limits since (phase.Reading reading) now left =
+abbrev pub IsTimeLeft : {S : Type 0} → Limits → Option Duration → Phase S → Duration → Duration
+    → Type 0
+IsTimeLeft limits since (phase.Reading reading) now left =
     as_nanos left ≡ left_of limits.request since now
-IsLeft limits since (phase.Writing writing) now left =
+IsTimeLeft limits since (phase.Writing writing) now left =
     IsReplyLeft limits writing.taking writing.sent now left
-IsLeft limits since (phase.Draining draining) now left =
+IsTimeLeft limits since (phase.Draining draining) now left =
     as_nanos left ≡ left_of limits.rest since now
 
 -- a wait is no longer than the limits, where it has an end

@@ -158,7 +158,7 @@ IsExcused acts absent =
 
 -- these calls, none of which waits, lead from one state of a watch to another; so many clients
 -- could not be let in, and these notes were given
-pub record Does {W : Type 0} (does : W → Act → W → Type 0) (old new : W)
+pub record DoesUnwaiting {W : Type 0} (does : W → Act → W → Type 0) (old new : W)
     (refused : ℕ) (notes : List Note) : Type 0 where
   pub acts : List Act
   pub done : AreDone does old acts new

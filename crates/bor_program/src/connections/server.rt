@@ -4,11 +4,11 @@ ghost use Rattle.std.specs.Prelude.{◌≡◌, ◌⊎◌, ◌+◌, ◌-◌, ◌<
 ghost use Rattle.std.specs.VecDeque.{deque_capacity, deque_len};
 ghost use Rattle.std.specs.Duration.{as_nanos};
 ghost use Rattle.bor_program.specs.Connections.Phases.{IsHeld, telling};
-ghost use Rattle.bor_program.specs.Connections.Servers.{Advances, AllRemain, AreHeld, AreSeated, AreWaitedFor, Asks, Becomes, EndsWithNew, FirstRemains, GivesWay, HasRoom, IsAtOnce, IsIdleOn, IsLongestIdle, IsNobodyToCome, IsReadOn, IsSameElse, IsTimed, IsTimely, Lets, LetsIn, NamesNone, Remains, Serves, Stays, Waiting, Welcomes, pending_in, telling_in};
+ghost use Rattle.bor_program.specs.Connections.Servers.{Advances, AllRemain, AreHeld, AreSeated, AreWaitedFor, AsksWhoComes, Becomes, EndsWithNew, FirstRemains, GivesWay, HasRoom, IsAtOnce, IsIdleOn, IsLongestIdle, IsNobodyToCome, IsReadOn, IsSameElse, IsTimed, IsTimely, Lets, LetsIn, NamesNone, Remains, Serves, StaysInQueue, Waiting, Welcomes, pending_in, telling_in};
 ghost use Rattle.bor_program.specs.Connections.Streams.{wire_of};
 ghost use Rattle.bor_program.specs.Connections.Times.{IsPatient};
 ghost use Rattle.bor_program.specs.Connections.Places.{Takes, is_ready, place_count, taken_in};
-ghost use Rattle.bor_program.specs.Connections.Watching.{AreTold, Does, Waits, Watches};
+ghost use Rattle.bor_program.specs.Connections.Watching.{AreTold, DoesUnwaiting, Waits, Watches};
 
 use crate::connections::limits::{Limits, shorter};
 use crate::connections::phase::{Phase, Step};
@@ -136,7 +136,7 @@ impl<S: Read + Write + OpenStream + Drop> Server<S> {
         ensures rest { IsSameElse self.old self.new }
         ensures seated { AreSeated self.new.seats.taken self.new.queue.items }
         ensures asks { (IsNobodyToCome self.old → ⊥) → HasRoom self.old
-            → Asks (record { does = W.does; begun = watch.old; ended = watch.new }) }
+            → AsksWhoComes (record { does = W.does; begun = watch.old; ended = watch.new }) }
     {
         for _ in 0..LET_IN {
             if self.left == 0 || !self.places.is_called() {
@@ -163,7 +163,7 @@ impl<S: Read + Write + OpenStream + Drop> Server<S> {
         ensures comes { Welcomes (record { does = W.does; begun = watch.old; ended = watch.new })
             now self.new.queue.items }
         ensures asks { HasRoom self.old
-            → Asks (record { does = W.does; begun = watch.old; ended = watch.new }) }
+            → AsksWhoComes (record { does = W.does; begun = watch.old; ended = watch.new }) }
     {
         if self.queue.reserve(1).is_err() {
             return;
@@ -193,7 +193,7 @@ impl<S: Read + Write + OpenStream + Drop> Server<S> {
         requires seated { AreSeated self.old.seats.taken self.old.queue.items }
         ensures lets { Lets (wire_of S.remaining S.contents) (telling_in self.old)
             (pending_in self.old + 1) 0 self.old.status self.new }
-        ensures does { Does W.does watch.old watch.new 0 [] }
+        ensures does { DoesUnwaiting W.does watch.old watch.new 0 [] }
         ensures rest { IsSameElse self.old self.new }
         ensures seated { AreSeated self.new.seats.taken self.new.queue.items }
         ensures comes { HasRoom self.old
@@ -241,7 +241,7 @@ impl<S: Read + Write + OpenStream + Drop> Server<S> {
     ) -> Option<usize>
         ensures becomes { Becomes self.old self.new }
         ensures rest { IsSameElse self.old self.new }
-        ensures does { Does W.does watch.old watch.new 0 [] }
+        ensures does { DoesUnwaiting W.does watch.old watch.new 0 [] }
         ensures seats { MatchOption result
             ((self.new.seats.taken ≡ self.old.seats.taken)
             × ((taken_in self.old.seats.taken ≡ place_count)
@@ -416,7 +416,7 @@ impl<S: Read + Write + OpenStream + Drop> Server<S> {
             (telling client.phase ++ telling_in self.old)
             (pending_in self.old + 1) 0 self.old.status self.new }
         ensures seated { AreSeated self.new.seats.taken self.new.queue.items }
-        ensures stays { Stays client self.old self.new }
+        ensures stays { StaysInQueue client self.old self.new }
         ensures places { self.new.places ≡ self.old.places }
         ensures rest { IsSameElse self.old self.new }
     {

@@ -3,7 +3,7 @@
 ghost use Rattle.std.specs.Prelude.{◌≡◌, [], Some, false};
 ghost use Rattle.bor_records.specs.Promises.{Promised};
 ghost use Rattle.bor_wire.specs.Answering.{Responds};
-ghost use Rattle.bor_program.specs.Logging.{IsNoteOf, MayAdd};
+ghost use Rattle.bor_program.specs.Logging.{IsNoteOf, MayNote};
 
 use crate::log::Note;
 use bor_desk::operations::Keep;
@@ -46,7 +46,7 @@ impl Service {
     /// Answers the request in these bytes.
     pub(crate) fn respond<K: Keep>(&mut self, keep: &mut K, request: &[u8]) -> Outgoing
         ensures answers { Responds K.meaning keep.old keep.new (Some request.now) result }
-        ensures noted { MayAdd (IsNoteOf
+        ensures noted { MayNote (IsNoteOf
             (Promised K.meaning keep.old keep.new) request.now result)
             self.old.notes.items self.new.notes.items }
         ensures silent { self.old.is_noting ≡ false

@@ -1,7 +1,7 @@
 //! Connections of a listener, many at once.
 
 ghost use Rattle.bor_program.specs.Connections.Serving.{IsServed, IsServedOver};
-ghost use Rattle.bor_program.specs.Connections.Streams.{IsOf, wire_of};
+ghost use Rattle.bor_program.specs.Connections.Streams.{EndedOn, wire_of};
 ghost use Rattle.std.specs.Prelude.{◌<◌, ◌≡◌, []};
 ghost use Rattle.bor_program.specs.Connections.Servers.{AreHeld, AreSeated, Becomes, Runs};
 ghost use Rattle.bor_program.specs.Hosting.{AreOfServer};
@@ -32,7 +32,7 @@ where
     L::Stream: Read + Write + OpenStream,
     ensures served { IsServed K.meaning keep.old keep.new connections result }
     ensures streams { (limits : Limits) × AreOfServer limits × IsServedOver K.meaning
-        (IsOf (wire_of L.Stream.remaining L.Stream.contents))
+        (EndedOn (wire_of L.Stream.remaining L.Stream.contents))
         (record { does = W.does; begun = watch.old; ended = watch.new })
         limits keep.old keep.new connections result }
 {
@@ -66,7 +66,7 @@ where
     L::Stream: Read + Write + OpenStream,
     ensures served { IsServed K.meaning keep.old keep.new connections result }
     ensures streams { IsServedOver K.meaning
-        (IsOf (wire_of L.Stream.remaining L.Stream.contents))
+        (EndedOn (wire_of L.Stream.remaining L.Stream.contents))
         (record { does = W.does; begun = watch.old; ended = watch.new })
         limits keep.old keep.new connections result }
 {

@@ -6,7 +6,7 @@ ghost use Rattle.bor_program.specs.declared.connections.phase.Phase.TheVariants 
 ghost use Rattle.bor_program.specs.declared.connections.taking.Taking.{Taking};
 ghost use Rattle.bor_program.specs.Connections.Phases.{EndsAs, IsHeld, IsStep, ReadsOn, phase_of, stand_at, telling};
 ghost use Rattle.bor_program.specs.Connections.Streams.{wire_of};
-ghost use Rattle.bor_program.specs.Connections.Times.{IfGoes, IsIdleSince, IsOverdue, IsPaced, IsTaking, IsTimeUp, looked, moves_of};
+ghost use Rattle.bor_program.specs.Connections.Times.{IfGoes, IsIdleSince, IsOverdue, IsPaced, IsTaking, IsTimeUp, taking_once_read, moves_of};
 ghost use Rattle.bor_program.specs.declared.connections.limits.Limits.{Limits};
 ghost use Rattle.bor_program.specs.declared.connections.phase.Pace.TheVariants as Pace;
 ghost use Rattle.bor_program.specs.declared.connections.phase.Step.TheVariants as Step;
@@ -120,7 +120,7 @@ pub(crate) fn look<S: Read + Write + OpenStream + Drop>(phase: Phase<S>, now: Du
     ensures held { IsHeld (wire_of S.remaining S.contents) result }
     ensures tells { telling result ≡ telling phase }
     ensures all { ReadsOn S.remaining phase result }
-    ensures time { IsTaking (looked phase now) result }
+    ensures time { IsTaking (taking_once_read phase now) result }
     ensures same { moves_of result ≡ moves_of phase }
     ensures due { (limits : Limits) (timing : Timing) → IsTimeUp limits timing result now
         → IsOverdue limits timing.since phase now }

@@ -4,7 +4,7 @@ ghost use Rattle.std.specs.Prelude.{◌≡◌, ◌≢◌, ◌||◌, None, Some, 
 ghost use Rattle.std.specs.Duration.{as_nanos};
 ghost use Rattle.bor_program.specs.declared.connections.phase.Pace.TheVariants.{Blocked, Turned};
 ghost use Rattle.bor_program.specs.Connections.Places.{is_ready};
-ghost use Rattle.bor_program.specs.Connections.Times.{IsLeft, IsTimeUp, fresh, left_of};
+ghost use Rattle.bor_program.specs.Connections.Times.{IsTimeLeft, IsTimeUp, fresh, left_of};
 
 use crate::connections::limits::Limits;
 use crate::connections::phase::{Pace, Phase};
@@ -91,7 +91,7 @@ impl Timing {
         ensures begun { self.new.since ≡ Some (unwrap_or self.old.since now) }
         ensures up { MatchOption result (IsTimeUp limits self.old phase.now now)
             (λ left. (IsTimeUp limits self.old phase.now now → ⊥)
-            × IsLeft limits self.old.since phase.now now left) }
+            × IsTimeLeft limits self.old.since phase.now now left) }
     {
         let since = self.since.unwrap_or(now);
         self.since = Some(since);

@@ -23,7 +23,7 @@ use Rattle.bor_store_sql.specs.declared.rows.typed.StatementRow.{StatementRow}
 use Rattle.bor_store_sql.specs.declared.rows.typed.InterestLine.{InterestLine}
 use Rattle.bor_store_sql.specs.declared.rows.typed.PeriodRow.{PeriodRow}
 use Rattle.bor_store_sql.specs.declared.rows.typed.IdentifierRow.{IdentifierRow}
-use Rattle.bor_store_sql.specs.Rows.Words.{entity_kind_of, person_kind_of, interest_kind_of, directness_of}
+use Rattle.bor_store_sql.specs.Rows.Words.{entity_kind_of, person_kind_of, interest_kind_of, directness_named}
 use Rattle.bor_store_sql.specs.Rows.WordLaws.{type_back, status_back, entity_back, person_back, interest_back, directness_back}
 use Rattle.bor_store_sql.specs.Rows.Encoding.{truth, or_null, day_or_null, statement_columns, interest_line_columns, period_columns, identifier_columns, agent_row_columns, register_row_columns, filing_columns}
 
@@ -166,7 +166,7 @@ line_in row = record {
   at = at_in row;
   item = number_in (column row 3);
   kind = unwrap_or (interest_kind_of (text_in (column row 4))) interests.Other;
-  directness = unwrap_or (directness_of (text_in (column row 5))) directness.Unknown;
+  directness = unwrap_or (directness_named (text_in (column row 5))) directness.Unknown;
   share = share_in row (column row 6);
 }
 

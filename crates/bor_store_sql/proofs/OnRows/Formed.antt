@@ -16,7 +16,7 @@ use Rattle.bor_register.specs.declared.filing.AcceptedFiling.{AcceptedFiling}
 use Rattle.bor_register.specs.declared.member.Member.{Member}
 use Rattle.bor_store_sql.specs.declared.rows.places.At.{At}
 use Rattle.bor_store_sql.specs.declared.rows.typed.Placed.{Placed}
-use Rattle.bor_store_sql.specs.Rows.Placed.{register_row, agent_row, filing_row, filing_lines, bare, interest_line, period_of, period_rows, if_said, part_of, interests_of, identifiers_of, interest_rows, identifier_rows, interests_from, identifiers_from, placed_from, placed_by, placed}
+use Rattle.bor_store_sql.specs.Rows.Placed.{register_row, agent_row, filing_row, filing_lines, bare, interest_line, period_of, period_rows, if_said, part_of, interests_listed, identifiers_listed, interest_rows, identifier_rows, interests_from, identifiers_from, placed_from, placed_by, placed}
 use Rattle.bor_store_sql.specs.Rows.RowForms.{IsFormedRegisterRow, IsFormedAgentRow, IsFormedFilingRow, IsFormedAt, IsFormedPart, IsFormedStatementRow, IsFormedInterestLine, IsFormedPeriodRow, IsFormedInterestRow, IsFormedIdentifierRow, IsFormedPlaced}
 use Rattle.bor_store_sql.specs.declared.rows.typed.InterestRow.{InterestRow}
 use Rattle.bor_store_sql.specs.Rows.Stored.{IsCounted, AreCounted, IsStored}
@@ -90,12 +90,12 @@ part_formed (details.Entity kind name identifiers) h = h.name_is
 part_formed (details.Person kind name) h = h
 part_formed (details.Relationship subject party interests) h = (h.subject_is, h.party_is)
 
-interests_formed : (d : Details) → IsFormedDetails d → All IsFormedInterest (interests_of d)
+interests_formed : (d : Details) → IsFormedDetails d → All IsFormedInterest (interests_listed d)
 interests_formed (details.Entity kind name identifiers) h = All-nil IsFormedInterest
 interests_formed (details.Person kind name) h = All-nil IsFormedInterest
 interests_formed (details.Relationship subject party interests) h = h.interests_are
 
-identifiers_formed : (d : Details) → IsFormedDetails d → All IsFormedIdentifier (identifiers_of d)
+identifiers_formed : (d : Details) → IsFormedDetails d → All IsFormedIdentifier (identifiers_listed d)
 identifiers_formed (details.Entity kind name identifiers) h = h.identifiers_are
 identifiers_formed (details.Person kind name) h = All-nil IsFormedIdentifier
 identifiers_formed (details.Relationship subject party interests) h = All-nil IsFormedIdentifier
@@ -127,12 +127,12 @@ identifiers_from_formed at here item (i ∷ is) room h =
 pub interest_rows_formed : (p : Placed) → IsFormedPlaced p → All IsFormedInterestRow (interest_rows p)
 interest_rows_formed p h =
     let few = h.counted.interests in
-    interests_from_formed p.at h.at 1 (interests_of p.statement.details) (omega (arith, few)) (interests_formed p.statement.details h.statement.details)
+    interests_from_formed p.at h.at 1 (interests_listed p.statement.details) (omega (arith, few)) (interests_formed p.statement.details h.statement.details)
 
 pub identifier_rows_formed : (p : Placed) → IsFormedPlaced p → All IsFormedIdentifierRow (identifier_rows p)
 identifier_rows_formed p h =
     let few = h.counted.identifiers in
-    identifiers_from_formed p.at h.at 1 (identifiers_of p.statement.details) (omega (arith, few)) (identifiers_formed p.statement.details h.statement.details)
+    identifiers_from_formed p.at h.at 1 (identifiers_listed p.statement.details) (omega (arith, few)) (identifiers_formed p.statement.details h.statement.details)
 
 -- ---- the rows of many
 

@@ -12,7 +12,7 @@ use Rattle.bor_store_sql.specs.declared.rows.typed.Placed.{Placed}
 use Rattle.bor_store_sql.specs.declared.rows.typed.StatementRow.{StatementRow}
 use Rattle.bor_store_sql.specs.declared.rows.typed.InterestRow.{InterestRow}
 use Rattle.bor_store_sql.specs.declared.rows.typed.IdentifierRow.{IdentifierRow}
-use Rattle.bor_store_sql.specs.Rows.Placed.{same_place, bare, interest_rows, identifier_rows, interests_from, identifiers_from, interests_of, identifiers_of, part_of, details_with, with_lists, AreApart}
+use Rattle.bor_store_sql.specs.Rows.Placed.{same_place, bare, interest_rows, identifier_rows, interests_from, identifiers_from, interests_listed, identifiers_listed, part_of, details_with, with_lists, AreApart}
 use Rattle.bor_store_sql.proofs.OnRows.Numbers.{same_number}
 
 pub at_itself : (at : At) → same_place at at ≡ true
@@ -36,11 +36,11 @@ other_identifiers at other item (i ∷ is) e = (e, other_identifiers at other (i
 
 pub no_interests_at : (at : At) (ps : List Placed) → AllByRecursion (λ (q : Placed). same_place q.at at ≡ false) ps → AllByRecursion (λ (row : InterestRow). same_place row.at at ≡ false) (flat_map interest_rows ps)
 no_interests_at at [] all = tt
-no_interests_at at (p ∷ ps) all = all-append _ (interest_rows p) (flat_map interest_rows ps) (other_interests at p.at 1 (interests_of p.statement.details) all.0) (no_interests_at at ps all.1)
+no_interests_at at (p ∷ ps) all = all-append _ (interest_rows p) (flat_map interest_rows ps) (other_interests at p.at 1 (interests_listed p.statement.details) all.0) (no_interests_at at ps all.1)
 
 pub no_identifiers_at : (at : At) (ps : List Placed) → AllByRecursion (λ (q : Placed). same_place q.at at ≡ false) ps → AllByRecursion (λ (row : IdentifierRow). same_place row.at at ≡ false) (flat_map identifier_rows ps)
 no_identifiers_at at [] all = tt
-no_identifiers_at at (p ∷ ps) all = all-append _ (identifier_rows p) (flat_map identifier_rows ps) (other_identifiers at p.at 1 (identifiers_of p.statement.details) all.0) (no_identifiers_at at ps all.1)
+no_identifiers_at at (p ∷ ps) all = all-append _ (identifier_rows p) (flat_map identifier_rows ps) (other_identifiers at p.at 1 (identifiers_listed p.statement.details) all.0) (no_identifiers_at at ps all.1)
 
 interests_back : (at : At) (item : ℕ) (is : List Interest) → map (λ (row : InterestRow). row.interest) (interests_from at item is) ≡ is
 interests_back at item [] = refl
@@ -50,14 +50,14 @@ identifiers_back : (at : At) (item : ℕ) (is : List Identifier) → map (λ (ro
 identifiers_back at item [] = refl
 identifiers_back at item (i ∷ is) = ap (λ l. i ∷ l) (identifiers_back at (item + 1) is)
 
-details_back : (d : Details) → details_with (part_of d) (interests_of d) (identifiers_of d) ≡ d
+details_back : (d : Details) → details_with (part_of d) (interests_listed d) (identifiers_listed d) ≡ d
 details_back (details.Entity kind name identifiers) = refl
 details_back (details.Person kind name) = refl
 details_back (details.Relationship subject party interests) = refl
 
 -- the row and its lists are those of the statement
 pub back : (p : Placed) → with_lists (bare p) (map (λ (row : InterestRow). row.interest) (interest_rows p)) (map (λ (row : IdentifierRow). row.identifier) (identifier_rows p)) ≡ p
-back p = rw (interests_back p.at 1 (interests_of p.statement.details), identifiers_back p.at 1 (identifiers_of p.statement.details), details_back p.statement.details) refl
+back p = rw (interests_back p.at 1 (interests_listed p.statement.details), identifiers_back p.at 1 (identifiers_listed p.statement.details), details_back p.statement.details) refl
 
 -- some statements are made of all, and the lists are those of the others
 pub record Left (all out : List Placed) (rows : List StatementRow) (is : List InterestRow) (ds : List IdentifierRow) : Type 0 where
@@ -92,8 +92,8 @@ one_more all out rows more row is is_left own_is ds ds_left own_ds made l first 
         let same : row ≡ bare p = cc in
         let rest : more ≡ map bare left = cc in
         let at : row.at ≡ p.at = ap (λ (r : StatementRow). r.at) same in
-        let one = (rw at at split_is) (interest_rows p) (flat_map interest_rows left) i (interests_at p.at 1 (interests_of p.statement.details)) (no_interests_at p.at left apart.0) in
-        let two = (rw at at split_ds) (identifier_rows p) (flat_map identifier_rows left) d (identifiers_at p.at 1 (identifiers_of p.statement.details)) (no_identifiers_at p.at left apart.0) in
+        let one = (rw at at split_is) (interest_rows p) (flat_map interest_rows left) i (interests_at p.at 1 (interests_listed p.statement.details)) (no_interests_at p.at left apart.0) in
+        let two = (rw at at split_ds) (identifier_rows p) (flat_map identifier_rows left) d (identifiers_at p.at 1 (identifiers_listed p.statement.details)) (no_identifiers_at p.at left apart.0) in
         let it : made ≡ p = made_is ∙ rw (same, one.0, two.0) (back p) in
         record {
           left = left;

@@ -15,7 +15,7 @@ use Rattle.bor_store_sql.specs.declared.rows.typed.InterestRow.{InterestRow}
 use Rattle.bor_store_sql.specs.declared.rows.typed.PeriodRow.{PeriodRow}
 use Rattle.bor_store_sql.specs.declared.rows.typed.IdentifierRow.{IdentifierRow}
 use Rattle.bor_store_sql.specs.declared.rows.typed.Placed.{Placed}
-use Rattle.bor_store_sql.specs.Rows.Placed.{AreApart, AreSeveral, Misses, agent_row, bare, identifier_rows, identifiers_of, if_said, interest_rows, interests_of, interest_line, period_of, period_rows, placed, placed_by, placed_from, same_interest, same_place, with_lists}
+use Rattle.bor_store_sql.specs.Rows.Placed.{AreApart, AreSeveral, Misses, agent_row, bare, identifier_rows, identifiers_listed, if_said, interest_rows, interests_listed, interest_line, period_of, period_rows, placed, placed_by, placed_from, same_interest, same_place, with_lists}
 use Rattle.bor_store_sql.specs.Rows.Stored.{AllNumbered, AreNumbered}
 use Rattle.bor_store_sql.proofs.OnRows.Decoded.{Filed, filed, without_statements}
 use Rattle.bor_store_sql.proofs.OnRows.Joins.{back, at_itself, identifiers_at, interests_at, no_identifiers_at, no_interests_at}
@@ -93,12 +93,12 @@ same_joined (p ∷ ps) (q ∷ qs) a b rows is ds =
     let others : map bare ps ≡ map bare qs = cc in
     let place : p.at ≡ q.at = ap (λ (r : StatementRow). r.at) row in
     let own = split_once (λ (x : InterestRow). same_place x.at p.at) (interest_rows p) (flat_map interest_rows ps) (interest_rows q) (flat_map interest_rows qs) is
-    (interests_at p.at 1 (interests_of p.statement.details)) (no_interests_at p.at ps a.0)
-    (subst (λ at. AllByRecursion (λ (x : InterestRow). same_place x.at at ≡ true) (interest_rows q)) (sym place) (interests_at q.at 1 (interests_of q.statement.details)))
+    (interests_at p.at 1 (interests_listed p.statement.details)) (no_interests_at p.at ps a.0)
+    (subst (λ at. AllByRecursion (λ (x : InterestRow). same_place x.at at ≡ true) (interest_rows q)) (sym place) (interests_at q.at 1 (interests_listed q.statement.details)))
     (subst (λ at. AllByRecursion (λ (x : InterestRow). same_place x.at at ≡ false) (flat_map interest_rows qs)) (sym place) (no_interests_at q.at qs b.0)) in
     let named = split_once (λ (x : IdentifierRow). same_place x.at p.at) (identifier_rows p) (flat_map identifier_rows ps) (identifier_rows q) (flat_map identifier_rows qs) ds
-    (identifiers_at p.at 1 (identifiers_of p.statement.details)) (no_identifiers_at p.at ps a.0)
-    (subst (λ at. AllByRecursion (λ (x : IdentifierRow). same_place x.at at ≡ true) (identifier_rows q)) (sym place) (identifiers_at q.at 1 (identifiers_of q.statement.details)))
+    (identifiers_at p.at 1 (identifiers_listed p.statement.details)) (no_identifiers_at p.at ps a.0)
+    (subst (λ at. AllByRecursion (λ (x : IdentifierRow). same_place x.at at ≡ true) (identifier_rows q)) (sym place) (identifiers_at q.at 1 (identifiers_listed q.statement.details)))
     (subst (λ at. AllByRecursion (λ (x : IdentifierRow). same_place x.at at ≡ false) (flat_map identifier_rows qs)) (sym place) (no_identifiers_at q.at qs b.0)) in
     let one : p ≡ q = sym (back p) ∙ (λ k. with_lists (row k) (map (λ (x : InterestRow). x.interest) (own.0 k)) (map (λ (x : IdentifierRow). x.identifier) (named.0 k))) ∙ back q in
     ap₂ (λ x l. x ∷ l) one (same_joined ps qs a.1 b.1 others own.1 named.1)

@@ -9,7 +9,7 @@ use Rattle.bods_read.specs.declared.interest.Interest.{Interest}
 use Rattle.bor_store_sql.specs.declared.rows.places.At.{At}
 use Rattle.bor_store_sql.specs.declared.rows.typed.Placed.{Placed}
 use Rattle.bor_store_sql.proofs.OnRows.Numbers.{other_number}
-use Rattle.bor_store_sql.specs.Rows.Placed.{AreApart, interest_rows, interests_from, interests_of, same_place, AreSeveral, Misses, OfNext, if_said, interest_line, period_of, period_rows, same_interest}
+use Rattle.bor_store_sql.specs.Rows.Placed.{AreApart, interest_rows, interests_from, interests_listed, same_place, AreSeveral, Misses, OfNext, if_said, interest_line, period_of, period_rows, same_interest}
 
 -- the periods of other interests miss this one
 one_missed : (i j : InterestRow) → same_interest j.at j.item i.at i.item ≡ false → Misses i (period_rows j)
@@ -88,7 +88,7 @@ elsewhere i at n (x ∷ is) e = (rw e (and_false (n == i.item)), elsewhere i at 
 
 all_elsewhere : (i : InterestRow) (ps : List Placed) → AllByRecursion (λ (q : Placed). same_place q.at i.at ≡ false) ps → AllByRecursion (λ (j : InterestRow). same_interest j.at j.item i.at i.item ≡ false) (flat_map interest_rows ps)
 all_elsewhere i [] h = tt
-all_elsewhere i (p ∷ ps) h = all-append _ (interest_rows p) (flat_map interest_rows ps) (elsewhere i p.at 1 (interests_of p.statement.details) h.0) (all_elsewhere i ps h.1)
+all_elsewhere i (p ∷ ps) h = all-append _ (interest_rows p) (flat_map interest_rows ps) (elsewhere i p.at 1 (interests_listed p.statement.details) h.0) (all_elsewhere i ps h.1)
 
 several_then : (at : At) (n : ℕ) (is : List Interest) (ps : List Placed) → AllByRecursion (λ (q : Placed). same_place q.at at ≡ false) ps → AreSeveral (flat_map interest_rows ps) → AreSeveral (interests_from at n is ++ flat_map interest_rows ps)
 several_then at n [] ps apart several = several
@@ -98,4 +98,4 @@ several_then at n (x ∷ is) ps apart several =
 
 pub all_several : (ps : List Placed) → AreApart ps → AreSeveral (flat_map interest_rows ps)
 all_several [] h = tt
-all_several (p ∷ ps) h = several_then p.at 1 (interests_of p.statement.details) ps h.0 (all_several ps h.1)
+all_several (p ∷ ps) h = several_then p.at 1 (interests_listed p.statement.details) ps h.0 (all_several ps h.1)

@@ -56,15 +56,15 @@ part_of (details.Entity kind name identifiers) = part.Entity kind name
 part_of (details.Person kind name) = part.Person kind name
 part_of (details.Relationship subject party interests) = part.Relationship subject party
 
-abbrev pub interests_of : Details → List Interest
-interests_of (details.Entity kind name identifiers) = []
-interests_of (details.Person kind name) = []
-interests_of (details.Relationship subject party interests) = interests
+abbrev pub interests_listed : Details → List Interest
+interests_listed (details.Entity kind name identifiers) = []
+interests_listed (details.Person kind name) = []
+interests_listed (details.Relationship subject party interests) = interests
 
-abbrev pub identifiers_of : Details → List Identifier
-identifiers_of (details.Entity kind name identifiers) = identifiers
-identifiers_of (details.Person kind name) = []
-identifiers_of (details.Relationship subject party interests) = []
+abbrev pub identifiers_listed : Details → List Identifier
+identifiers_listed (details.Entity kind name identifiers) = identifiers
+identifiers_listed (details.Person kind name) = []
+identifiers_listed (details.Relationship subject party interests) = []
 
 -- its row in the table statement
 abbrev pub bare : Placed → StatementRow
@@ -90,11 +90,11 @@ identifiers_from at item (i ∷ is) =
 
 -- its interests, each with where it stands
 abbrev pub interest_rows : Placed → List InterestRow
-interest_rows p = interests_from p.at 1 (interests_of p.statement.details)
+interest_rows p = interests_from p.at 1 (interests_listed p.statement.details)
 
 -- its rows in the table identifier
 abbrev pub identifier_rows : Placed → List IdentifierRow
-identifier_rows p = identifiers_from p.at 1 (identifiers_of p.statement.details)
+identifier_rows p = identifiers_from p.at 1 (identifiers_listed p.statement.details)
 
 -- an interest's row in the table interest
 abbrev pub interest_line : InterestRow → InterestLine

@@ -5,7 +5,7 @@ use Rattle.bor_register.specs.Register.{Register, IsOrdered}
 use Rattle.bor_register.specs.Forms.{IsFormed}
 use Rattle.bor_register.specs.declared.filing.AcceptedFiling.{AcceptedFiling}
 use Rattle.bor_register.specs.declared.member.Member.{Member}
-use Rattle.bor_store_sql.specs.Rows.Placed.{interests_of, identifiers_of}
+use Rattle.bor_store_sql.specs.Rows.Placed.{interests_listed, identifiers_listed}
 
 -- each agent's filings are numbered from 1 on
 abbrev pub AreNumbered : ℕ → List AcceptedFiling → Type 0
@@ -18,8 +18,8 @@ AllNumbered (m ∷ ms) = AreNumbered 1 m.filings × AllNumbered ms
 
 -- The places of its interests and of its identifiers are numbers of 32 bits.
 pub record IsCounted (s : Statement) : Type 0 where
-  pub interests : length (interests_of s.details) < 2 ^ 32
-  pub identifiers : length (identifiers_of s.details) < 2 ^ 32
+  pub interests : length (interests_listed s.details) < 2 ^ 32
+  pub identifiers : length (identifiers_listed s.details) < 2 ^ 32
 
 -- The places of a file's statements are numbers of 32 bits too.
 pub record AreCounted (ss : List Statement) : Type 0 where

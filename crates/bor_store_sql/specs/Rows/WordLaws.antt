@@ -7,7 +7,7 @@ use Rattle.std.proofs.lemmas.Str.{IsUtf8-from_is_utf8}
 use Rattle.bods_read.specs.Words.{type_word, type_worded, status_word, status_worded, entity_word}
 use Rattle.bods_read.specs.Words.{person_word, interest_word, directness_word}
 use Rattle.bor_store_sql.specs.Rows.Words.{entity_kind_of, person_kind_of, interest_kind_of}
-use Rattle.bor_store_sql.specs.Rows.Words.{directness_of}
+use Rattle.bor_store_sql.specs.Rows.Words.{directness_named}
 use Rattle.bods_read.specs.declared.statement.RecordType.{RecordType}
 use Rattle.bods_read.specs.declared.statement.RecordType.TheVariants as types
 use Rattle.bods_read.specs.declared.statement.Status.{Status}
@@ -100,8 +100,8 @@ interest_utf8 interests.AppointmentOfBoard =
     IsUtf8-from_is_utf8 (interest_word interests.AppointmentOfBoard) refl
 interest_utf8 interests.Other = IsUtf8-from_is_utf8 (interest_word interests.Other) refl
 
-pub directness_back : (x : Directness) → directness_of (directness_word x) ≡ Some x
-unfolding directness_of directness_word
+pub directness_back : (x : Directness) → directness_named (directness_word x) ≡ Some x
+unfolding directness_named directness_word
 directness_back directness.Direct = refl
 directness_back directness.Indirect = refl
 directness_back directness.Unknown = refl

@@ -28,6 +28,6 @@ interest_kind_of text =
     (interests.Shareholding ∷ interests.VotingRights ∷ interests.AppointmentOfBoard
     ∷ interests.Other ∷ []) text
 
-unfoldable pub directness_of : List ℕ → Option Directness
-directness_of text =
+unfoldable pub directness_named : List ℕ → Option Directness
+directness_named text =
     worded directness_word (directness.Direct ∷ directness.Indirect ∷ directness.Unknown ∷ []) text

@@ -168,18 +168,18 @@ impl Worded for InterestKind {
 
 impl Worded for Directness {
     ghost use Rattle.bods_read.specs.Words.{directness_word};
-    ghost use Rattle.bor_store_sql.specs.Rows.Words.{directness_of};
+    ghost use Rattle.bor_store_sql.specs.Rows.Words.{directness_named};
     ghost use Rattle.bor_store_sql.specs.Rows.WordLaws.{directness_back, directness_utf8};
 
     ghost word = { directness_word };
 
-    ghost worded = { directness_of };
+    ghost worded = { directness_named };
 
     ghost back = { directness_back };
 
     ghost is_text = { directness_utf8 };
 
-    #[tactic(auto, unfolding(crate::specs::Rows::Words::directness_of, bods_read::specs::Words::directness_word))]
+    #[tactic(auto, unfolding(crate::specs::Rows::Words::directness_named, bods_read::specs::Words::directness_word))]
     fn of_word(text: &str) -> Option<Directness> {
         match text {
             "direct" => Some(Directness::Direct),

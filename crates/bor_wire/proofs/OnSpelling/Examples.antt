@@ -18,14 +18,14 @@ use Rattle.bor_http.specs.Incoming.Head.{head_len, head_limit}
 use Rattle.bor_http.specs.Incoming.Message.{Parts, FieldText}
 use Rattle.bor_http.proofs.OnRoutes.OnLiterals.{routes_on_literals}
 use Rattle.bor_wire.specs.Spelling.Query.{as_text}
-use Rattle.bor_wire.specs.Spelling.Parts.{text_in, path_in, bearer_token, token, once, at_most_once, key_in, name_in}
-use Rattle.bor_wire.specs.Spelling.Refusals.{lines_of_message, refusals}
+use Rattle.bor_wire.specs.Spelling.Parts.{text_in, path_spelled, bearer_token, token, once, at_most_once, key_in, name_in}
+use Rattle.bor_wire.specs.Spelling.Refusals.{lines_of_message, refusals_spelled}
 use Rattle.bor_wire.specs.Spelling.Spell.{Spelled, Spells, asked, spell, spelling}
 use Rattle.bor_http.proofs.OnIncoming.Examples.{begins, of_literal}
 
 -- what is opened to compute what an input spells
 unfoldable pub speller : ⊤
-unfolding is_utf8 chars encode as_text form_urlencoded_on_literals is_agent_name is_lodge_key is_ident is_token pair_at number_of has_marks digits_day day_of name_word head_len routes_on_literals text_in path_in bearer_token token once at_most_once key_in name_in lines_of_message refusals asked spell spelling
+unfolding is_utf8 chars encode as_text form_urlencoded_on_literals is_agent_name is_lodge_key is_ident is_token pair_at number_of has_marks digits_day day_of name_word head_len routes_on_literals text_in path_spelled bearer_token token once at_most_once key_in name_in lines_of_message refusals_spelled asked spell spelling
 speller = tt
 
 -- ---- inputs
@@ -44,7 +44,7 @@ abbrev Cases : Type 0
 Cases = List ((List ℕ × Option Parts) × List Refusal)
 
 abbrev found : Cases → List (List Refusal)
-found cases = map (λ c. refusals c.0.0 c.0.1) cases
+found cases = map (λ c. refusals_spelled c.0.0 c.0.1) cases
 
 abbrev expected : Cases → List (List Refusal)
 expected cases = map (λ c. c.1) cases
@@ -90,11 +90,11 @@ unfolding speller
 heads_found = refl
 
 -- 16,384 bytes without a head, and one byte less
-no_head_in_many : refusals (many head_limit) None ≡ HeadTooLarge ∷ []
+no_head_in_many : refusals_spelled (many head_limit) None ≡ HeadTooLarge ∷ []
 unfolding speller
 no_head_in_many = refl
 
-no_head_in_less : refusals (many 16383) None ≡ CutShort ∷ []
+no_head_in_less : refusals_spelled (many 16383) None ≡ CutShort ∷ []
 unfolding speller
 no_head_in_less = refl
 

@@ -12,7 +12,7 @@ use Rattle.bor_http.specs.Incoming.Refusals.{refuse, lines_of_input, message_in,
 use Rattle.bor_http.specs.Incoming.Steps.{◌>>=◌}
 use Rattle.bor_http.proofs.OnIncoming.ByTable.{one_head}
 use Rattle.bor_http.proofs.OnIncoming.Laws.{message_follows}
-use Rattle.bor_wire.specs.Spelling.Refusals.{refusals, lines_behind, lines_of_message}
+use Rattle.bor_wire.specs.Spelling.Refusals.{refusals_spelled, lines_behind, lines_of_message}
 use Rattle.bor_wire.specs.Spelling.Spell.{Spelled, Spells, asked, spell, spelling, asked_behind}
 
 -- ---- the whole table, from its two parts
@@ -45,7 +45,7 @@ at_end input (Some n) (Some parts) =
     (asked (message_of parts (drop n input))) refl
 
 spelling_is : (input : List ℕ) (head : Option Parts) → spelling input head ≡ (message_read input head >>= spell)
-unfolding spelling refusals message_read
+unfolding spelling refusals_spelled message_read
 spelling_is input head = at_end input (head_end input) head
 
 -- ---- the laws

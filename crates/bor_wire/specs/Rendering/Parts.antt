@@ -20,7 +20,7 @@ abbrev pub rest_tokens : {A : Type 0} → (A → Data) → List A → List Token
 rest_tokens shown items = items_tokens (items_outline (items_of (map shown items)))
 
 -- These tokens were written behind the others, and what stands before them all stays.
-pub record Adds {E : Type 0} (result : Result (Unit {0}) E) (old new : Written)
+pub record WritesBehind {E : Type 0} (result : Result (Unit {0}) E) (old new : Written)
     (added : List Token) : Type 0 where
   pub tokens : OnOk result (new.tokens ≡ old.tokens ++ added)
   pub before : new.before ≡ old.before

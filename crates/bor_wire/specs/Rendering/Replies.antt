@@ -22,9 +22,9 @@ abbrev pub wrong_method : Refusal → Option Path
 wrong_method (WrongMethod path) = Some path
 wrong_method why = None
 
-abbrev pub path_of : Said → Option Path
-path_of (refused why) = wrong_method why
-path_of (answered reply) = None
+abbrev pub path_replied : Said → Option Path
+path_replied (refused why) = wrong_method why
+path_replied (answered reply) = None
 
 abbrev pub reply_body : Said → List ℕ
 reply_body (refused why) = wire_refusal_text why
@@ -36,4 +36,4 @@ reply_bytes status path body = head_bytes status path (length body) ++ body
 
 -- the bytes of a reply
 abbrev pub bytes_of : Said → List ℕ
-bytes_of said = reply_bytes (status_of said) (path_of said) (reply_body said)
+bytes_of said = reply_bytes (status_of said) (path_replied said) (reply_body said)

@@ -34,12 +34,12 @@ abbrev pub query : Message → List TextPair
 query m = pairs_of (split_once 63 m.parts.target).1
 
 -- the path that a text in UTF-8 is
-unfoldable pub path_in : List ℕ → Option Path
-path_in text = if is_utf8 text then path_of text else None
+unfoldable pub path_spelled : List ℕ → Option Path
+path_spelled text = if is_utf8 text then path_of text else None
 
 -- the path, as it stands in the target
 abbrev pub path : Message → Option Path
-path m = path_in (path_text m)
+path m = path_spelled (path_text m)
 
 -- the request of the path by the method
 abbrev pub route : Message → Option Route

@@ -75,6 +75,6 @@ lines_behind input (Some n) (Some parts) = lines_of_message (message_of parts (d
 lines_behind input end head = []
 
 -- all refusals that hold of an input whose head is taken apart so, in their order
-unfoldable pub refusals : List ℕ → Option Parts → List Refusal
-refusals input head =
+unfoldable pub refusals_spelled : List ℕ → Option Parts → List Refusal
+refusals_spelled input head =
     lines_of_input input (head_end input) head ++ lines_behind input (head_end input) head

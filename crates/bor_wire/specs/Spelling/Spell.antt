@@ -12,7 +12,7 @@ use Rattle.bor_wire.specs.declared.spelling.asking.Asking.{Asking}
 use Rattle.bor_wire.specs.Spelling.Parts as part
 use Rattle.bor_http.specs.Incoming.Head.{head_end}
 use Rattle.bor_http.specs.Incoming.Refusals.{message_of}
-use Rattle.bor_wire.specs.Spelling.Refusals.{lines_of_message, refusals}
+use Rattle.bor_wire.specs.Spelling.Refusals.{lines_of_message, refusals_spelled}
 
 abbrev pub Spelled : Type 0
 Spelled = Result Asked Refusal
@@ -80,7 +80,8 @@ asked_behind input end head = record { token = []; request = ask.Filings }
 
 -- the request, or the refusal, that an input spells whose head is taken apart so
 unfoldable pub spelling : List ℕ → Option Parts → Spelled
-spelling input head = outcome (refusals input head) (asked_behind input (head_end input) head)
+spelling input head =
+    outcome (refusals_spelled input head) (asked_behind input (head_end input) head)
 
 -- the whole input spells this
 abbrev pub Spells : List ℕ → Spelled → Type 0

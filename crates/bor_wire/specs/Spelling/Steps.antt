@@ -30,9 +30,9 @@ StatesFault Read stated = ⊥
 StatesFault Memory stated = ⊤
 
 -- the value that is found, seen by view, is the one that is stated
-abbrev pub Finds : {X Y : Type 0} → (X → Y) → Result X WireFault → Result Y Refusal → Type 0
-Finds view (Ok x) stated = stated ≡ Ok (view x)
-Finds view (Err fault) stated = StatesFault fault stated
+abbrev pub FindsStated : {X Y : Type 0} → (X → Y) → Result X WireFault → Result Y Refusal → Type 0
+FindsStated view (Ok x) stated = stated ≡ Ok (view x)
+FindsStated view (Err fault) stated = StatesFault fault stated
 
 -- the part, or why there is none
 abbrev pub or_refuse : {A : Type 0} → Refusal → Option A → Result A Refusal

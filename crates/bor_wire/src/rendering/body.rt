@@ -4,7 +4,7 @@ ghost use Rattle.std.specs.Prelude.{◌≡◌, IfOk, OnOk};
 ghost use Rattle.serde_json.specs.Written.{compact_text};
 ghost use Rattle.bor_wire.specs.Rendering.Values.{list_data, snapshot_data, chains_data, evidence_data, entities_data, register_data};
 ghost use Rattle.bor_wire.specs.Rendering.Bodies.{snapshot_text, chains_text, evidence_text, entities_text, register_text, desk_body};
-ghost use Rattle.bor_wire.specs.Rendering.Parts.{Adds, data_tokens};
+ghost use Rattle.bor_wire.specs.Rendering.Parts.{WritesBehind, data_tokens};
 
 use crate::rendering::head::HEAD_ROOM;
 use crate::rendering::reply::RESERVED;
@@ -29,7 +29,7 @@ fn array_body<T: Shown>(alloc: Global, items: &[T]) -> Result<Vec<u8>, AllocErro
 }
 
 fn write_snapshot(out: &mut Writer, date: Day, records: &[Entry]) -> Result<(), AllocError>
-    ensures { Adds result out.old out.new (data_tokens (snapshot_data date records.now)) }
+    ensures { WritesBehind result out.old out.new (data_tokens (snapshot_data date records.now)) }
 {
     out.begin_object()?;
     out.key("date")?;
@@ -54,7 +54,7 @@ fn write_chains(
     date: Day,
     persons: &[PersonLine],
 ) -> Result<(), AllocError>
-    ensures { Adds result out.old out.new (data_tokens (chains_data entity.now date persons.now)) }
+    ensures { WritesBehind result out.old out.new (data_tokens (chains_data entity.now date persons.now)) }
 {
     out.begin_object()?;
     write_text(out, "agent", entity.agent.as_str())?;
@@ -87,7 +87,7 @@ fn write_evidence(
     date: Day,
     evidence: &EntityEvidence,
 ) -> Result<(), AllocError>
-    ensures { Adds result out.old out.new
+    ensures { WritesBehind result out.old out.new
         (data_tokens (evidence_data entity.now date evidence.now)) }
 {
     out.begin_object()?;
@@ -125,7 +125,7 @@ fn write_entities(
     date: Day,
     records: &[RecordEvidence],
 ) -> Result<(), AllocError>
-    ensures { Adds result out.old out.new
+    ensures { WritesBehind result out.old out.new
         (data_tokens (entities_data identifier.now date records.now)) }
 {
     out.begin_object()?;
@@ -153,7 +153,7 @@ fn entities_body(
 }
 
 fn write_register(out: &mut Writer, agents: &[AgentLine], day: Day) -> Result<(), AllocError>
-    ensures { Adds result out.old out.new (data_tokens (register_data agents.now day)) }
+    ensures { WritesBehind result out.old out.new (data_tokens (register_data agents.now day)) }
 {
     out.begin_object()?;
     out.key("agents")?;

@@ -2,7 +2,7 @@
 
 ghost use Rattle.std.specs.Prelude.{◌≡◌};
 ghost use Rattle.bor_wire.specs.Rendering.Values.{maybe_data, key_data, person_evidence_data, link_evidence_data, record_evidence_data};
-ghost use Rattle.bor_wire.specs.Rendering.Parts.{Adds, data_tokens};
+ghost use Rattle.bor_wire.specs.Rendering.Parts.{WritesBehind, data_tokens};
 
 use crate::rendering::records::write_details;
 use crate::rendering::shown::{Shown, write_array, write_day, write_maybe, write_text};
@@ -45,7 +45,7 @@ impl Shown for PersonEvidence {
 
 // Writes the record of the link that follows, or null where none does.
 fn write_next(out: &mut Writer, next: &Option<Node>) -> Result<(), AllocError>
-    ensures { Adds result out.old out.new (data_tokens (maybe_data key_data next.now)) }
+    ensures { WritesBehind result out.old out.new (data_tokens (maybe_data key_data next.now)) }
 {
     match next {
         Some(node) => node.write(out),

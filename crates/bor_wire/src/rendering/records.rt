@@ -1,7 +1,7 @@
 //! Open records, as replies show them.
 
 ghost use Rattle.bor_wire.specs.Rendering.Values.{maybe_data, identifier_data, share_data, interest_data, details_data, entry_data};
-ghost use Rattle.bor_wire.specs.Rendering.Parts.{Adds, data_tokens};
+ghost use Rattle.bor_wire.specs.Rendering.Parts.{WritesBehind, data_tokens};
 
 use crate::rendering::shown::{Shown, write_array, write_day, write_maybe, write_text};
 use bods_read::{Details, EntityKind, FreeText, Identifier, Interest, PersonKind};
@@ -23,7 +23,7 @@ impl Shown for Identifier {
 
 // Writes a share in percent.
 fn write_span(out: &mut Writer, share: Span) -> Result<(), AllocError>
-    ensures { Adds result out.old out.new (data_tokens (share_data share)) }
+    ensures { WritesBehind result out.old out.new (data_tokens (share_data share)) }
 {
     out.begin_object()?;
     out.key("high")?;
@@ -39,7 +39,7 @@ fn write_span(out: &mut Writer, share: Span) -> Result<(), AllocError>
 
 // Writes a share, or null where there is none.
 fn write_share(out: &mut Writer, share: Option<Span>) -> Result<(), AllocError>
-    ensures { Adds result out.old out.new (data_tokens (maybe_data share_data share)) }
+    ensures { WritesBehind result out.old out.new (data_tokens (maybe_data share_data share)) }
 {
     match share {
         Some(share) => write_span(out, share),
@@ -66,7 +66,7 @@ fn write_entity(
     name: &Option<FreeText>,
     identifiers: &[Identifier],
 ) -> Result<(), AllocError>
-    ensures { Adds result out.old out.new
+    ensures { WritesBehind result out.old out.new
         (data_tokens (details_data (Details.Entity kind name.now identifiers.now))) }
 {
     out.begin_object()?;
@@ -83,7 +83,7 @@ fn write_person(
     kind: PersonKind,
     name: &Option<FreeText>,
 ) -> Result<(), AllocError>
-    ensures { Adds result out.old out.new
+    ensures { WritesBehind result out.old out.new
         (data_tokens (details_data (Details.Person kind name.now))) }
 {
     out.begin_object()?;
@@ -99,7 +99,7 @@ fn write_relationship(
     party: &Option<Ident>,
     interests: &[Interest],
 ) -> Result<(), AllocError>
-    ensures { Adds result out.old out.new
+    ensures { WritesBehind result out.old out.new
         (data_tokens (details_data (Details.Relationship subject.now party.now interests.now))) }
 {
     out.begin_object()?;
@@ -114,7 +114,7 @@ fn write_relationship(
 
 /// Writes what a statement says of its record.
 pub(crate) fn write_details(out: &mut Writer, details: &Details) -> Result<(), AllocError>
-    ensures { Adds result out.old out.new (data_tokens (details_data details.now)) }
+    ensures { WritesBehind result out.old out.new (data_tokens (details_data details.now)) }
 {
     match details {
         Details::Entity {

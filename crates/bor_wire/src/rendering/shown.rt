@@ -5,7 +5,7 @@ ghost use Rattle.json.specs.Token.{key, string};
 ghost use Rattle.serde_json.specs.Data.{Data, string as text_data};
 ghost use Rattle.bor_terms.specs.Day.{day_text};
 ghost use Rattle.bor_wire.specs.Rendering.Values.{list_data, maybe_data, day_data};
-ghost use Rattle.bor_wire.specs.Rendering.Parts.{Adds, data_tokens, rest_tokens};
+ghost use Rattle.bor_wire.specs.Rendering.Parts.{WritesBehind, data_tokens, rest_tokens};
 
 use bor_terms::{Day, Form, Text};
 use json::Writer;
@@ -17,12 +17,12 @@ pub(crate) trait Shown {
 
     /// Writes the value.
     fn write(&self, out: &mut Writer) -> Result<(), AllocError>
-        ensures { Adds result out.old out.new (data_tokens (as_data self.now)) };
+        ensures { WritesBehind result out.old out.new (data_tokens (as_data self.now)) };
 }
 
 /// Writes the text of a day.
 pub(crate) fn write_day(out: &mut Writer, day: Day) -> Result<(), AllocError>
-    ensures { Adds result out.old out.new (data_tokens (day_data day)) }
+    ensures { WritesBehind result out.old out.new (data_tokens (day_data day)) }
 {
     match str::from_utf8(day.text().as_slice()) {
         Ok(text) => out.string(text),
@@ -32,7 +32,7 @@ pub(crate) fn write_day(out: &mut Writer, day: Day) -> Result<(), AllocError>
 
 /// Writes a member of an object that is a text.
 pub(crate) fn write_text(out: &mut Writer, name: &str, text: &str) -> Result<(), AllocError>
-    ensures { Adds result out.old out.new (key name.now ∷ string text.now ∷ []) }
+    ensures { WritesBehind result out.old out.new (key name.now ∷ string text.now ∷ []) }
 {
     out.key(name)?;
     out.string(text)
@@ -43,7 +43,7 @@ pub(crate) fn write_maybe<F: Form>(
     out: &mut Writer,
     text: &Option<Text<F>>,
 ) -> Result<(), AllocError>
-    ensures { Adds result out.old out.new (data_tokens (maybe_data text_data text.now)) }
+    ensures { WritesBehind result out.old out.new (data_tokens (maybe_data text_data text.now)) }
 {
     match text {
         Some(text) => out.string(text.as_str()),
@@ -53,7 +53,7 @@ pub(crate) fn write_maybe<F: Form>(
 
 /// Writes an array of items.
 pub(crate) fn write_array<T: Shown>(out: &mut Writer, items: &[T]) -> Result<(), AllocError>
-    ensures { Adds result out.old out.new (data_tokens (list_data T.as_data items.now)) }
+    ensures { WritesBehind result out.old out.new (data_tokens (list_data T.as_data items.now)) }
 {
     out.begin_array()?;
     for item in items {

@@ -1,7 +1,7 @@
 //! The request of a message, and the token of whoever asks.
 ghost use Rattle.bor_wire.specs.Spelling.Spell.{asked_view, spell};
 ghost use Rattle.bor_wire.specs.Spelling.Query.{pair_texts};
-ghost use Rattle.bor_wire.specs.Spelling.Steps.{Finds, enrolment_by_steps, identifier_by_steps, lodging_by_steps, node_by_steps, renewal_by_steps, request_by_steps, snapshot_by_steps};
+ghost use Rattle.bor_wire.specs.Spelling.Steps.{FindsStated, enrolment_by_steps, identifier_by_steps, lodging_by_steps, node_by_steps, renewal_by_steps, request_by_steps, snapshot_by_steps};
 
 use crate::spelling::name::{agent_named, day_if_named, day_named, ident_named, text_named};
 use crate::spelling::query::{QueryPair, query_pairs};
@@ -27,7 +27,7 @@ pub struct Asking {
 // The record that a query names.
 #[tactic(auto, unfolding(crate::specs::Spelling::Steps::node_by_steps))]
 fn node_named(alloc: Global, pairs: &[QueryPair]) -> Result<Node, WireFault>
-    ensures { Finds (λ node. node) result (node_by_steps (pair_texts pairs.now)) }
+    ensures { FindsStated (λ node. node) result (node_by_steps (pair_texts pairs.now)) }
 {
     Ok(Node {
         agent: agent_named(alloc, pairs, Name::Agent)?,
@@ -39,7 +39,7 @@ fn node_named(alloc: Global, pairs: &[QueryPair]) -> Result<Node, WireFault>
 // The identifier that a query names.
 #[tactic(auto, unfolding(crate::specs::Spelling::Steps::identifier_by_steps))]
 fn identifier_named(alloc: Global, pairs: &[QueryPair]) -> Result<Identifier, WireFault>
-    ensures { Finds (λ identifier. identifier) result (identifier_by_steps (pair_texts pairs.now)) }
+    ensures { FindsStated (λ identifier. identifier) result (identifier_by_steps (pair_texts pairs.now)) }
 {
     Ok(Identifier {
         scheme: text_named(alloc, pairs, Name::Scheme)?,
@@ -54,7 +54,7 @@ fn lodging_for(
     pairs: &[QueryPair],
     body: &[u8],
 ) -> Result<Request, WireFault>
-    ensures { Finds (λ request. request) result
+    ensures { FindsStated (λ request. request) result
         (lodging_by_steps path.now (pair_texts pairs.now) body.now) }
 {
     Ok(Request::Lodge {
@@ -66,7 +66,7 @@ fn lodging_for(
 
 #[tactic(auto, unfolding(crate::specs::Spelling::Steps::snapshot_by_steps))]
 fn snapshot_for(alloc: Global, pairs: &[QueryPair]) -> Result<Request, WireFault>
-    ensures { Finds (λ request. request) result (snapshot_by_steps (pair_texts pairs.now)) }
+    ensures { FindsStated (λ request. request) result (snapshot_by_steps (pair_texts pairs.now)) }
 {
     Ok(Request::Snapshot {
         agent: agent_named(alloc, pairs, Name::Agent)?,
@@ -77,7 +77,7 @@ fn snapshot_for(alloc: Global, pairs: &[QueryPair]) -> Result<Request, WireFault
 
 #[tactic(auto, unfolding(crate::specs::Spelling::Steps::enrolment_by_steps))]
 fn enrolment_for(alloc: Global, pairs: &[QueryPair], body: &[u8]) -> Result<Request, WireFault>
-    ensures { Finds (λ request. request) result
+    ensures { FindsStated (λ request. request) result
         (enrolment_by_steps (pair_texts pairs.now) body.now) }
 {
     Ok(Request::Enrol {
@@ -88,7 +88,7 @@ fn enrolment_for(alloc: Global, pairs: &[QueryPair], body: &[u8]) -> Result<Requ
 
 #[tactic(auto, unfolding(crate::specs::Spelling::Steps::renewal_by_steps))]
 fn renewal_for(alloc: Global, path: &[u8], body: &[u8]) -> Result<Request, WireFault>
-    ensures { Finds (λ request. request) result (renewal_by_steps path.now body.now) }
+    ensures { FindsStated (λ request. request) result (renewal_by_steps path.now body.now) }
 {
     Ok(Request::Renew {
         name: name_at(alloc, path)?,
@@ -99,7 +99,7 @@ fn renewal_for(alloc: Global, path: &[u8], body: &[u8]) -> Result<Request, WireF
 // The request that a route asks for, from the path, the query and the body.
 #[tactic(auto, unfolding(crate::specs::Spelling::Steps::request_by_steps))]
 fn request_for(alloc: Global, route: Route, raw: &RawRequest) -> Result<Request, WireFault>
-    ensures { Finds (λ request. request) result (request_by_steps route raw.now) }
+    ensures { FindsStated (λ request. request) result (request_by_steps route raw.now) }
 {
     let (path, query) = split_at_first(raw.target(), b'?');
     let pairs = query_pairs(alloc, query)?;
@@ -139,7 +139,7 @@ fn request_for(alloc: Global, route: Route, raw: &RawRequest) -> Result<Request,
 /// that are about a path, a method, a token and names. Want of memory is answered where it is met;
 /// the reader is not asked, so [`WireFault::Read`] is never answered.
 pub fn parse(alloc: Global, raw: &RawRequest) -> Result<Asking, WireFault>
-    ensures { Finds asked_view result (spell raw.now) }
+    ensures { FindsStated asked_view result (spell raw.now) }
 {
     parse_by(alloc, &Paths::new(alloc)?, raw)
 }
@@ -148,7 +148,7 @@ pub fn parse(alloc: Global, raw: &RawRequest) -> Result<Asking, WireFault>
 /// whoever has many requests.
 #[tactic(auto, using(crate::proofs::OnSpelling::Stepwise::stepwise), unfolding(crate::specs::Spelling::Steps::spell_by_steps))]
 pub fn parse_by(alloc: Global, paths: &Paths, raw: &RawRequest) -> Result<Asking, WireFault>
-    ensures { Finds asked_view result (spell raw.now) }
+    ensures { FindsStated asked_view result (spell raw.now) }
 {
     let (path, _) = split_at_first(raw.target(), b'?');
     let path = path_at(paths, path)?;

@@ -3,7 +3,7 @@ ghost use Rattle.bor_terms.specs.Texts.{is_agent_name, is_ident};
 ghost use Rattle.bor_terms.specs.Day.{day_of};
 ghost use Rattle.bor_wire.specs.Spelling.Query.{pair_texts};
 ghost use Rattle.bor_wire.specs.Spelling.Parts.{fitting, once, at_most_once};
-ghost use Rattle.bor_wire.specs.Spelling.Steps.{Finds, named};
+ghost use Rattle.bor_wire.specs.Spelling.Steps.{FindsStated, named};
 
 use crate::spelling::query::{QueryPair, count_pairs, only_value};
 use bods_read::FreeText;
@@ -18,7 +18,7 @@ pub(crate) fn agent_named(
     pairs: &[QueryPair],
     name: Name,
 ) -> Result<AgentName, WireFault>
-    ensures { Finds (λ agent. agent) result
+    ensures { FindsStated (λ agent. agent) result
         (named name (once (fitting is_agent_name) name (pair_texts pairs.now))) }
 {
     let Some(text) = only_value(pairs, name.as_str()) else {
@@ -37,7 +37,7 @@ pub(crate) fn ident_named(
     pairs: &[QueryPair],
     name: Name,
 ) -> Result<Ident, WireFault>
-    ensures { Finds (λ ident. ident) result
+    ensures { FindsStated (λ ident. ident) result
         (named name (once (fitting is_ident) name (pair_texts pairs.now))) }
 {
     let Some(text) = only_value(pairs, name.as_str()) else {
@@ -56,7 +56,7 @@ pub(crate) fn text_named(
     pairs: &[QueryPair],
     name: Name,
 ) -> Result<FreeText, WireFault>
-    ensures { Finds (λ text. text) result
+    ensures { FindsStated (λ text. text) result
         (named name (once (fitting is_ident) name (pair_texts pairs.now))) }
 {
     let Some(text) = only_value(pairs, name.as_str()) else {
@@ -71,7 +71,7 @@ pub(crate) fn text_named(
 /// The day of this name's value.
 #[tactic(auto, unfolding(crate::specs::Spelling::Parts::once))]
 pub(crate) fn day_named(pairs: &[QueryPair], name: Name) -> Result<Day, WireFault>
-    ensures { Finds (λ day. day) result (named name (once day_of name (pair_texts pairs.now))) }
+    ensures { FindsStated (λ day. day) result (named name (once day_of name (pair_texts pairs.now))) }
 {
     let Some(text) = only_value(pairs, name.as_str()) else {
         return Err(WireFault::Refused(Refusal::BadQuery(name)));
@@ -85,7 +85,7 @@ pub(crate) fn day_named(pairs: &[QueryPair], name: Name) -> Result<Day, WireFaul
 /// The day of this name's value, or none where the name is missing.
 #[tactic(auto, unfolding(crate::specs::Spelling::Parts::at_most_once))]
 pub(crate) fn day_if_named(pairs: &[QueryPair], name: Name) -> Result<Option<Day>, WireFault>
-    ensures { Finds (λ day. day) result
+    ensures { FindsStated (λ day. day) result
         (named name (at_most_once day_of name (pair_texts pairs.now))) }
 {
     if count_pairs(pairs, name.as_str()) == 0 {

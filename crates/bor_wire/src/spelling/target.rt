@@ -3,8 +3,8 @@ ghost use Rattle.std.specs.Prelude.{◌≡◌, drop};
 ghost use Rattle.form_urlencoded.specs.Form.{split_once};
 ghost use Rattle.bor_http.specs.declared.incoming.fault.Refusal.TheVariants.{NoPath};
 ghost use Rattle.bor_http.specs.declared.incoming.fault.Name.TheVariants as names;
-ghost use Rattle.bor_wire.specs.Spelling.Parts.{path_in, key_in, name_in};
-ghost use Rattle.bor_wire.specs.Spelling.Steps.{Finds, or_refuse, named};
+ghost use Rattle.bor_wire.specs.Spelling.Parts.{path_spelled, key_in, name_in};
+ghost use Rattle.bor_wire.specs.Spelling.Steps.{FindsStated, or_refuse, named};
 
 use bor_http::incoming::{Name, Path, Refusal, WireFault};
 use bor_http::routes::Paths;
@@ -24,7 +24,7 @@ pub(crate) fn split_at_first(bytes: &[u8], byte: u8) -> (&[u8], &[u8])
 
 /// The path that bytes are.
 pub(crate) fn path_at(paths: &Paths, text: &[u8]) -> Result<Path, WireFault>
-    ensures { Finds (λ path. path) result (or_refuse NoPath (path_in text.now)) }
+    ensures { FindsStated (λ path. path) result (or_refuse NoPath (path_spelled text.now)) }
 {
     let Ok(text) = str::from_utf8(text) else {
         return Err(WireFault::Refused(Refusal::NoPath));
@@ -48,7 +48,7 @@ fn behind(bytes: &[u8], count: usize) -> &[u8]
 
 /// The key in the path of a filing.
 pub(crate) fn key_at(alloc: Global, path: &[u8]) -> Result<LodgeKey, WireFault>
-    ensures { Finds (λ key. key) result (named names.Key (key_in path.now)) }
+    ensures { FindsStated (λ key. key) result (named names.Key (key_in path.now)) }
 {
     let (segment, _) = split_at_first(behind(path, 9), b'/');
     let Ok(text) = str::from_utf8(segment) else {
@@ -62,7 +62,7 @@ pub(crate) fn key_at(alloc: Global, path: &[u8]) -> Result<LodgeKey, WireFault>
 
 /// The name in the path of an agent.
 pub(crate) fn name_at(alloc: Global, path: &[u8]) -> Result<AgentName, WireFault>
-    ensures { Finds (λ name. name) result (named names.Name (name_in path.now)) }
+    ensures { FindsStated (λ name. name) result (named names.Name (name_in path.now)) }
 {
     let Ok(text) = str::from_utf8(behind(path, 8)) else {
         return Err(WireFault::Refused(Refusal::BadQuery(Name::Name)));

@@ -1,7 +1,7 @@
 use Rattle.std.proofs.Common.{◌≡◌, ◌⊎◌, inl, inr, ℕ, Bool, true, false, subst, sym}
 use Rattle.std.specs.Prelude.{if◌then◌else◌}
 use Rattle.bor_program.specs.Connections.Serving.{IsServedOver}
-use Rattle.bor_program.specs.Connections.Streams.{IsOf, wire_of}
+use Rattle.bor_program.specs.Connections.Streams.{EndedOn, wire_of}
 use Rattle.bor_program.proofs.serve.listen.Goals as goal
 
 -- a server gives 0 or 3
@@ -25,6 +25,6 @@ returns-clause-hosted g c =
       is_within = record { request = limits.ensures.request; reply = limits.ensures.reply; floor = limits.ensures.floor; rest = limits.ensures.rest };
       within = subst (λ n. g.H.Register.OpenRegister.serves c.args.register.now c.in-Some.listener limits.result c.args.asked.connections c.serve-served.new.self n) same
           c.serve-served.ensures.within;
-      served = subst (λ n. IsServedOver g.H.Register.OpenRegister.meaning (IsOf (wire_of g.H.Listener.Stream.Read.remaining g.H.Listener.Stream.Write.contents))
+      served = subst (λ n. IsServedOver g.H.Register.OpenRegister.meaning (EndedOn (wire_of g.H.Listener.Stream.Read.remaining g.H.Listener.Stream.Write.contents))
           (record { does = g.H.Waiter.Watch.does; begun = c.waiter-waiter.result; ended = c.serve-served.new.watch }) limits.result c.args.register.now c.serve-served.new.self c.args.asked.connections n) same over;
     }

@@ -6,7 +6,7 @@ use Rattle.bor_terms.specs.Day.{IsDay}
 use Rattle.bor_store_sql.specs.Rows.Encoding.{contents}
 use Rattle.bor_store_sql.specs.Rows.Stored.{AreCounted}
 use Rattle.bor_store_sql.specs.Changing.{Any, MayAdd, added, with_live_filing}
-use Rattle.bor_store_sql.specs.Shown.{Changes, StepsTo, ShowsIn}
+use Rattle.bor_store_sql.specs.Shown.{ChangesContents, StepsTo, ShowsIn}
 use Rattle.bor_store_sql.proofs.AddedContents.{added_has}
 use Rattle.bor_store_sql.proofs.StoredMembers.{added_stored}
 use Rattle.bor_store_sql.proofs.Ending.{Ended, alters, ended}
@@ -28,8 +28,8 @@ returns g c =
     let is = subst IsDay c.number-known.ensures.value c.number-known.ensures.within in
     let are_bytes : All (λ b. b < 256) bytes = All-from_get_or (λ b. b < 256) bytes 0 (λ i lt. let fits = c.type_inv.bytes i in omega (arith, fits)) in
     let steps = subst (λ k. StepsTo Any (with_live_filing agent number k due bytes ss) (state g.S.Store began) mid c.insert_rows-done.result) c.as_str-lodge_key.ensures.value c.insert_rows-done.ensures.steps in
-    let Makes : Database → Database → Type 0 = λ was is. Changes Any (with_live_filing agent number key due bytes ss) was is × AreCounted ss in
-    let counted = with_known (AreCounted ss) (Changes Any (with_live_filing agent number key due bytes ss)) (state g.S.Store began) mid c.insert_rows-done.result c.insert_rows-done.ensures.counted steps in
+    let Makes : Database → Database → Type 0 = λ was is. ChangesContents Any (with_live_filing agent number key due bytes ss) was is × AreCounted ss in
+    let counted = with_known (AreCounted ss) (ChangesContents Any (with_live_filing agent number key due bytes ss)) (state g.S.Store began) mid c.insert_rows-done.result c.insert_rows-done.ensures.counted steps in
     let ends = ended g.S.Store Makes was began mid (state g.S.Store end) c.insert_rows-done.result c.finish.result (search rules) (c.is_autocommit.ensures.settled (search rules)) c.transaction-tx.ensures.begun counted c.insert_rows-done.ensures.ran_open c.finish.ensures.mode c.finish.ensures.ends in
     let same : end ≡ c.conn-1.given.0 = search rules in
     let it = subst (λ h. Ended Makes (state g.S.Store was) (state g.S.Store h) c.finish.result) same ends in

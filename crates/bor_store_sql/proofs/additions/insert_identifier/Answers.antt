@@ -6,7 +6,7 @@ use Rattle.bor_store_sql.specs.Texts.Changes.{insert_identifier_text}
 use Rattle.bor_store_sql.specs.Changing.{Any, with_identifier_rows}
 use Rattle.bor_store_sql.specs.Rows.Encoding.{identifier_columns}
 use Rattle.bor_store_sql.proofs.Adding.{identifier_put}
-use Rattle.bor_store_sql.specs.Shown.{Changes}
+use Rattle.bor_store_sql.specs.Shown.{ChangesContents}
 use Rattle.bor_store_sql.proofs.Moves.{moves_by}
 use Rattle.bor_store_sql.proofs.additions.insert_identifier.Goals as goal
 
@@ -18,5 +18,5 @@ returns g c =
     let row : IdentifierRow = record { at = at; item = c.args.item; identifier = c.args.identifier.now } in
     record {
       same_reference = c.run.ensures.same_reference;
-      steps = moves_by (Changes Any (with_identifier_rows (row ∷ []))) insert_identifier_text _ (identifier_columns row) old new c.run.result c.run.ensures.ran c.identifier_values.ensures (λ count h t has fit. identifier_put old new count t has row h);
+      steps = moves_by (ChangesContents Any (with_identifier_rows (row ∷ []))) insert_identifier_text _ (identifier_columns row) old new c.run.result c.run.ensures.ran c.identifier_values.ensures (λ count h t has fit. identifier_put old new count t has row h);
     }

@@ -6,7 +6,7 @@ use Rattle.bor_store_sql.specs.Texts.Changes.{insert_interest_text}
 use Rattle.bor_store_sql.specs.Changing.{Any, with_interest_rows}
 use Rattle.bor_store_sql.specs.Rows.Encoding.{interest_columns}
 use Rattle.bor_store_sql.proofs.Adding.{interest_put}
-use Rattle.bor_store_sql.specs.Shown.{Changes}
+use Rattle.bor_store_sql.specs.Shown.{ChangesContents}
 use Rattle.bor_store_sql.proofs.Moves.{moves_by}
 use Rattle.bor_store_sql.proofs.additions.insert_interest.Goals as goal
 
@@ -18,5 +18,5 @@ returns g c =
     let row : InterestRow = record { at = at; item = c.args.item; interest = c.args.interest.now } in
     record {
       same_reference = c.run.ensures.same_reference;
-      steps = moves_by (Changes Any (with_interest_rows (row ∷ []))) insert_interest_text _ (interest_columns row) old new c.run.result c.run.ensures.ran c.interest_values.ensures (λ count h t has fit. interest_put old new count t has row h);
+      steps = moves_by (ChangesContents Any (with_interest_rows (row ∷ []))) insert_interest_text _ (interest_columns row) old new c.run.result c.run.ensures.ran c.interest_values.ensures (λ count h t has fit. interest_put old new count t has row h);
     }

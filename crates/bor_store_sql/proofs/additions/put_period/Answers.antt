@@ -7,7 +7,7 @@ use Rattle.bor_store_sql.specs.Changing.{Any, with_period_row}
 use Rattle.bor_store_sql.specs.Rows.Placed.{period_of}
 use Rattle.bor_store_sql.specs.Rows.Encoding.{period_columns}
 use Rattle.bor_store_sql.proofs.Adding.{period_put}
-use Rattle.bor_store_sql.specs.Shown.{Changes}
+use Rattle.bor_store_sql.specs.Shown.{ChangesContents}
 use Rattle.bor_store_sql.proofs.Moves.{moves_by}
 use Rattle.bor_store_sql.proofs.additions.put_period.Goals as goal
 
@@ -20,5 +20,5 @@ returns g c =
     let row : PeriodRow = period_of interest in
     record {
       same_reference = c.run.ensures.same_reference;
-      steps = moves_by (Changes Any (with_period_row row)) insert_period_text _ (period_columns row) old new c.run.result c.run.ensures.ran c.period_values.ensures (λ count h t has fit. period_put old new count t has row h);
+      steps = moves_by (ChangesContents Any (with_period_row row)) insert_period_text _ (period_columns row) old new c.run.result c.run.ensures.ran c.period_values.ensures (λ count h t has fit. period_put old new count t has row h);
     }

@@ -5,7 +5,7 @@ use Rattle.bor_register.specs.Register.{empty_register}
 use Rattle.bor_store_sql.specs.Rows.Encoding.{contents}
 use Rattle.bor_store_sql.specs.Texts.Tables.{no_schema}
 use Rattle.bor_store_sql.specs.Beside.{SetsUpSound}
-use Rattle.bor_store_sql.specs.Blank.{IsBlank, LeadsTo}
+use Rattle.bor_store_sql.specs.Blank.{IsBlank, LeadsBetween}
 use Rattle.bor_store_sql.specs.Ran.{MovesTo}
 use Rattle.bor_store_sql.specs.Shown.{Has}
 use Rattle.bor_store_sql.proofs.Creating.{empty_is_stored}
@@ -22,7 +22,7 @@ returns g c =
     let token = c.args.registrar.now in
     let day = c.args.day in
     let is = subst IsDay c.number-known.ensures.value c.number-known.ensures.within in
-    let leads = subst (λ t. LeadsTo (IsBlank no_schema) (Has (contents (empty_register t day))) (state g.S.Store began) mid c.make_register-done.result) c.as_str-token.ensures.value c.make_register-done.ensures.leads in
+    let leads = subst (λ t. LeadsBetween (IsBlank no_schema) (Has (contents (empty_register t day))) (state g.S.Store began) mid c.make_register-done.result) c.as_str-token.ensures.value c.make_register-done.ensures.leads in
     let ends = ended g.S.Store (λ old new. IsBlank no_schema old → Has (contents (empty_register token day)) new) was began mid (state g.S.Store end) c.make_register-done.result c.finish.result (search rules) (c.is_autocommit.ensures.settled (search rules)) c.transaction-tx.ensures.begun leads c.make_register-done.ensures.ran_open c.finish.ensures.mode c.finish.ensures.ends in
     let sets = subst (λ t. MovesTo (SetsUpSound (empty_register t day)) (state g.S.Store began) mid c.make_register-done.result) c.as_str-token.ensures.value c.make_register-done.ensures.sets_up in
     let beside = ended g.S.Store (SetsUpSound (empty_register token day)) was began mid (state g.S.Store end) c.make_register-done.result c.finish.result (search rules) (c.is_autocommit.ensures.settled (search rules)) c.transaction-tx.ensures.begun sets c.make_register-done.ensures.ran_open c.finish.ensures.mode c.finish.ensures.ends in

@@ -1,7 +1,7 @@
 use Rattle.std.proofs.Common.{subst}
 use Rattle.sqlite.specs.Held.{state}
 use Rattle.bor_store_sql.specs.declared.texts.queries.TheConstants.{INTERESTS_OF_STATEMENT}
-use Rattle.bor_store_sql.specs.Found.{Asked}
+use Rattle.bor_store_sql.specs.Found.{AnswersQuery}
 use Rattle.bor_store_sql.proofs.BothKeyed.{interests_of_statement_finds}
 use Rattle.bor_store_sql.proofs.Plain.{interests_of_statement_asks}
 use Rattle.bor_store_sql.proofs.keyed.interests_of_statement.Goals as goal
@@ -11,5 +11,5 @@ query-requires g c = interests_of_statement_asks
 
 pub returns : goal.returns
 returns g c =
-    let asked = subst (λ params. Asked INTERESTS_OF_STATEMENT.now params (state g.S.Store c.args.conn.now) (state g.S.Store c.query.new.conn) c.query.result) c.statement_key.ensures c.query.ensures in
+    let asked = subst (λ params. AnswersQuery INTERESTS_OF_STATEMENT.now params (state g.S.Store c.args.conn.now) (state g.S.Store c.query.new.conn) c.query.result) c.statement_key.ensures c.query.ensures in
     interests_of_statement_finds c.args.agent.now c.args.number c.args.place (state g.S.Store c.args.conn.now) (state g.S.Store c.query.new.conn) c.query.result asked

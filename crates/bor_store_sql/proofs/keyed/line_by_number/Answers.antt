@@ -1,7 +1,7 @@
 use Rattle.std.proofs.Common.{subst}
 use Rattle.sqlite.specs.Held.{state}
 use Rattle.bor_store_sql.specs.declared.texts.queries.TheConstants.{LINE_BY_NUMBER}
-use Rattle.bor_store_sql.specs.Found.{Asked}
+use Rattle.bor_store_sql.specs.Found.{AnswersQuery}
 use Rattle.bor_store_sql.proofs.KeyedReads.{line_by_number_finds}
 use Rattle.bor_store_sql.proofs.Plain.{line_by_number_asks}
 use Rattle.bor_store_sql.proofs.keyed.line_by_number.Goals as goal
@@ -11,5 +11,5 @@ query-requires g c = line_by_number_asks
 
 pub returns : goal.returns
 returns g c =
-    let asked = subst (λ params. Asked LINE_BY_NUMBER.now params (state g.S.Store c.args.conn.now) (state g.S.Store c.query.new.conn) c.query.result) c.filing_key.ensures c.query.ensures in
+    let asked = subst (λ params. AnswersQuery LINE_BY_NUMBER.now params (state g.S.Store c.args.conn.now) (state g.S.Store c.query.new.conn) c.query.result) c.filing_key.ensures c.query.ensures in
     line_by_number_finds c.args.agent.now c.args.number (state g.S.Store c.args.conn.now) (state g.S.Store c.query.new.conn) c.query.result asked

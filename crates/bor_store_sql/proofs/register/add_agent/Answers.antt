@@ -4,7 +4,7 @@ use Rattle.sqlite.specs.Held.{state}
 use Rattle.bor_register.specs.Register.{new_member}
 use Rattle.bor_store_sql.specs.Rows.Encoding.{agent_columns, contents}
 use Rattle.bor_store_sql.specs.Changing.{Any, enrolled, with_agent_row}
-use Rattle.bor_store_sql.specs.Shown.{Changes, StepsTo, ShowsIn}
+use Rattle.bor_store_sql.specs.Shown.{ChangesContents, StepsTo, ShowsIn}
 use Rattle.bor_store_sql.proofs.AddedContents.{enrolled_has}
 use Rattle.bor_store_sql.proofs.StoredMembers.{enrolled_stored}
 use Rattle.bor_store_sql.proofs.Ending.{Ended, alters, ended}
@@ -19,7 +19,7 @@ returns g c =
     let name = c.args.agent.now in
     let token = c.args.token.now in
     let steps = subst₂ (λ n t. StepsTo Any (with_agent_row (agent_columns (new_member n t))) (state g.S.Store began) mid c.insert_agent-done.result) c.as_str-name.ensures.value c.as_str-secret.ensures.value c.insert_agent-done.ensures.steps in
-    let Makes : Database → Database → Type 0 = Changes Any (with_agent_row (agent_columns (new_member name token))) in
+    let Makes : Database → Database → Type 0 = ChangesContents Any (with_agent_row (agent_columns (new_member name token))) in
     let ends = ended g.S.Store Makes was began mid (state g.S.Store end) c.insert_agent-done.result c.finish.result (search rules) (c.is_autocommit.ensures.settled (search rules)) c.transaction-tx.ensures.begun steps c.insert_agent-done.ensures.ran_open c.finish.ensures.mode c.finish.ensures.ends in
     let same : end ≡ c.conn-1.given.0 = search rules in
     let it = subst (λ h. Ended Makes (state g.S.Store was) (state g.S.Store h) c.finish.result) same ends in

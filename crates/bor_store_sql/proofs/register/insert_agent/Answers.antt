@@ -4,7 +4,7 @@ use Rattle.bor_store_sql.specs.Texts.Changes.{insert_agent_text}
 use Rattle.bor_store_sql.specs.Rows.Encoding.{agent_columns}
 use Rattle.bor_store_sql.specs.Changing.{Any, with_agent_row}
 use Rattle.bor_store_sql.proofs.Adding.{agent_put}
-use Rattle.bor_store_sql.specs.Shown.{Changes}
+use Rattle.bor_store_sql.specs.Shown.{ChangesContents}
 use Rattle.bor_store_sql.proofs.Moves.{moves_by, run_open}
 use Rattle.bor_store_sql.proofs.register.insert_agent.Goals as goal
 
@@ -16,5 +16,5 @@ returns g c =
     record {
       same_reference = c.run.ensures.same_reference;
       ran_open = run_open _ _ old new c.run.result c.run.ensures.ran;
-      steps = moves_by (Changes Any (with_agent_row (agent_columns member))) insert_agent_text _ (agent_columns member) old new c.run.result c.run.ensures.ran c.agent_values.ensures (λ count h t has fit. agent_put old new count t has member h);
+      steps = moves_by (ChangesContents Any (with_agent_row (agent_columns member))) insert_agent_text _ (agent_columns member) old new c.run.result c.run.ensures.ran c.agent_values.ensures (λ count h t has fit. agent_put old new count t has member h);
     }

@@ -4,7 +4,7 @@ use Rattle.sqlite.specs.Held.{state}
 use Rattle.bor_terms.specs.Day.{IsDay}
 use Rattle.bor_store_sql.specs.Rows.Encoding.{contents}
 use Rattle.bor_store_sql.specs.Changing.{IsOneRegister, with_day}
-use Rattle.bor_store_sql.specs.Shown.{Always, Changes, ShowsIn}
+use Rattle.bor_store_sql.specs.Shown.{Always, ChangesContents, ShowsIn}
 use Rattle.bor_store_sql.proofs.Dating.{one_register, dated_has, dated_stored}
 use Rattle.bor_store_sql.proofs.Ending.{Ended, alters, ended}
 use Rattle.bor_store_sql.proofs.register.set_day.Goals as goal
@@ -17,7 +17,7 @@ returns g c =
     let end = c.finish.new.tx.0 in
     let day = c.args.day in
     let is = subst IsDay c.number-known.ensures.value c.number-known.ensures.within in
-    let Makes : Database → Database → Type 0 = Changes (IsOneRegister day) (with_day day) in
+    let Makes : Database → Database → Type 0 = ChangesContents (IsOneRegister day) (with_day day) in
     let ends = ended g.S.Store Makes was began mid (state g.S.Store end) c.update_day-done.result c.finish.result (search rules) (c.is_autocommit.ensures.settled (search rules)) c.transaction-tx.ensures.begun c.update_day-done.ensures.steps c.update_day-done.ensures.ran_open c.finish.ensures.mode c.finish.ensures.ends in
     let same : end ≡ c.conn-1.given.0 = search rules in
     let it = subst (λ h. Ended Makes (state g.S.Store was) (state g.S.Store h) c.finish.result) same ends in

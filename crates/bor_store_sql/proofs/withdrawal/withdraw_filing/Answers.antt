@@ -3,7 +3,7 @@ use Rattle.sqlite.specs.Effect.{Database}
 use Rattle.sqlite.specs.Held.{state}
 use Rattle.bor_store_sql.specs.Rows.Encoding.{contents}
 use Rattle.bor_store_sql.specs.Changing.{IsOnce, withdrawn, withdrawn_in}
-use Rattle.bor_store_sql.specs.Shown.{Always, Changes, ShowsIn}
+use Rattle.bor_store_sql.specs.Shown.{Always, ChangesContents, ShowsIn}
 use Rattle.bor_store_sql.proofs.WithdrawnContents.{once, now_has, still_stored}
 use Rattle.bor_store_sql.proofs.Ending.{Ended, alters, ended}
 use Rattle.bor_store_sql.proofs.withdrawal.withdraw_filing.Goals as goal
@@ -16,7 +16,7 @@ returns g c =
     let end = c.finish.new.tx.0 in
     let agent = c.args.agent.now in
     let number = c.args.number in
-    let Makes : Database → Database → Type 0 = Changes (IsOnce agent number) (withdrawn_in agent number) in
+    let Makes : Database → Database → Type 0 = ChangesContents (IsOnce agent number) (withdrawn_in agent number) in
     let ends = ended g.S.Store Makes was began mid (state g.S.Store end) c.withdraw_rows-done.result c.finish.result (search rules) (c.is_autocommit.ensures.settled (search rules)) c.transaction-tx.ensures.begun c.withdraw_rows-done.ensures.steps c.withdraw_rows-done.ensures.ran_open c.finish.ensures.mode c.finish.ensures.ends in
     let same : end ≡ c.conn-1.given.0 = search rules in
     let it = subst (λ h. Ended Makes (state g.S.Store was) (state g.S.Store h) c.finish.result) same ends in

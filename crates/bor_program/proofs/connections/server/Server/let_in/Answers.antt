@@ -1,6 +1,6 @@
 use Rattle.std.proofs.Common.{◌∙◌, [], arith, inl, inr, refl, subst, sym}
 use Rattle.std.proofs.lemmas.Bool.{cases_lt}
-use Rattle.bor_program.specs.Connections.Servers.{Asks, HasRoom, IsNobodyToCome}
+use Rattle.bor_program.specs.Connections.Servers.{AsksWhoComes, HasRoom, IsNobodyToCome}
 use Rattle.bor_program.proofs.OnConnections.Running.{asks_on}
 use Rattle.bor_program.proofs.OnConnections.Running.{lets_in_same, lets_in_then}
 use Rattle.bor_program.proofs.connections.server.Server.let_in.Goals as goal
@@ -25,7 +25,7 @@ loop-preserved g c = record {
     | inl later ↦ asks_on g.W.Watch.does c.args.watch.now c.loop.watch c.let_one_in.new.watch c.let_one_in.ensures.lets.refused [] (c.loop.invariant.asks later room) c.let_one_in.ensures.lets.done
     | inr now ↦
         let same = c.loop.invariant.first (omega (arith, now)) in
-        subst (λ w. Asks (record { does = g.W.Watch.does; begun = w; ended = c.let_one_in.new.watch })) same.1 (c.let_one_in.ensures.asks (subst HasRoom (sym same.0) room))
+        subst (λ w. AsksWhoComes (record { does = g.W.Watch.does; begun = w; ended = c.let_one_in.new.watch })) same.1 (c.let_one_in.ensures.asks (subst HasRoom (sym same.0) room))
   ];
   seated = c.let_one_in.ensures.seated;
 }

@@ -2,7 +2,7 @@ use Rattle.std.proofs.Common.{◌≡◌, ◌∙◌, ◌+◌, ◌++◌, ap, false
 use Rattle.bor_program.specs.Connections.Phases.{ReadsOn, telling}
 use Rattle.bor_program.specs.Connections.Serving.{Tally}
 use Rattle.bor_program.specs.Connections.Servers.{pending_in, tally_in, telling_in}
-use Rattle.bor_program.specs.Connections.Times.{IsOverdue, IsTaking, IsTimeUp, looked, moves_of}
+use Rattle.bor_program.specs.Connections.Times.{IsOverdue, IsTaking, IsTimeUp, taking_once_read, moves_of}
 use Rattle.bor_program.proofs.OnConnections.Phases.{reads_then}
 use Rattle.bor_program.proofs.OnConnections.Servers.{lets_go_same}
 use Rattle.bor_program.proofs.OnConnections.Remaining.{names_none}
@@ -27,7 +27,7 @@ returns-in-Ends-clause-serves g c = λ start connections absent noted before.
 
 pub returns-in-Goes-clause-time : goal.returns-in-Goes-clause-time
 returns-in-Goes-clause-time g c = λ last is.
-    let taking = looked c.args.client.phase c.args.now in
+    let taking = taking_once_read c.args.client.phase c.args.now in
     subst (IsTaking taking) (sym (c.go_on.ensures.time.same last is)) (c.in-Goes.ensures.time taking c.look-phase.ensures.time)
 
 pub returns-in-Goes-clause-all : goal.returns-in-Goes-clause-all

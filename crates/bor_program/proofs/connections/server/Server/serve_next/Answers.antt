@@ -1,5 +1,5 @@
 use Rattle.std.specs.VecDeque.{deque_capacity, deque_len}
-use Rattle.bor_program.specs.Connections.Servers.{IsBehind, IsStill}
+use Rattle.bor_program.specs.Connections.Servers.{IsQueuedBehind, IsStill}
 use Rattle.bor_program.specs.Connections.Times.{IsOverdue}
 use Rattle.std.proofs.lemmas.Grind.{common_steps}
 use Rattle.std.proofs.Common.{◌≡◌, ◌<◌, ◌∷◌, arith, length, subst, ◌++◌, sym, ◌∙◌, ap, drop}
@@ -44,7 +44,7 @@ returns-in-Some-now-clause-remains g c = λ now client rest is first still due.
     let room : deque_len popped < deque_capacity popped = omega (arith, c.in-Some.ensures.cases, c.in-Some.ensures.capacity, old.queue.small.1) in
     let kept = c.serve.ensures.remains (subst (IsStill old.places) mine still)
     (λ over. due (subst (λ t. IsOverdue old.limits client.timing.since client.phase t) at (subst (λ x. IsOverdue old.limits x.timing.since x.phase c.in-Some-now.now) (sym mine) over))) room in
-    subst (λ l. IsBehind l client c.serve.new.self.queue.items) others (subst (λ x. IsBehind popped.items x c.serve.new.self.queue.items) (sym mine) kept)
+    subst (λ l. IsQueuedBehind l client c.serve.new.self.queue.items) others (subst (λ x. IsQueuedBehind popped.items x c.serve.new.self.queue.items) (sym mine) kept)
 
 pub returns-in_default-clause-remains : goal.returns-in_default-clause-remains
 returns-in_default-clause-remains g c = λ now client rest is first still due.

@@ -1,7 +1,7 @@
 use Rattle.std.proofs.Common.{◌≡◌, ◌∙◌, ap, inl, subst, sym}
 use Rattle.bor_records.specs.Promises.{Promised}
 use Rattle.bor_wire.specs.Exchanges.{NamesWhoAsks}
-use Rattle.bor_program.specs.Logging.{IsNoteOf, MayAdd}
+use Rattle.bor_program.specs.Logging.{IsNoteOf, MayNote}
 use Rattle.bor_program.proofs.Logged.{may_add}
 use Rattle.bor_program.proofs.connections.service.Service.respond.Goals as goal
 use Rattle.bor_program.proofs.connections.service.Service.respond.Goals.{then-is_none+in-Some-1, then-is_none+in-None-1, else-is_none, then-self, else-self}
@@ -16,7 +16,7 @@ returns-after-self-clause-noted g c =
       | then-is_none+in-None-1 w ↦ ap (λ s. s.notes.items) w.self-is
       | else-is_none w ↦ ap (λ s. s.notes.items) w.self-is
     ] in
-    subst (λ notes. MayAdd P notes c.if-self.self.notes.items) before (elim c.if-self.branch [
+    subst (λ notes. MayNote P notes c.if-self.self.notes.items) before (elim c.if-self.branch [
       | then-self w ↦
           may_add P c.if-is_none.self.notes.items c.if-self.self.notes.items _ w.of.result (ap (λ s. s.notes.items) w.self-is ∙ w.push.ensures.items) (record {
             asked = w.of.ensures.asked;
