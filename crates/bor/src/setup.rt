@@ -1,6 +1,6 @@
 //! Registers on connections to stores: those that are there, and new ones.
 
-ghost use Rattle.std.specs.Prelude.{◌≡◌, false, IfOk};
+ghost use Rattle.std.specs.Prelude.{◌≡◌, IfOk};
 ghost use Rattle.sqlite.specs.Held.{state};
 ghost use Rattle.bor_register.specs.Register.{Register, empty_register};
 ghost use Rattle.bor_store_sql.specs.Shown.{IsClean, ShowsIn};
@@ -14,14 +14,13 @@ use sqlite::{Alter, Connection};
 use std::alloc::Global;
 
 /// The register that the tables of a store are, or one that is set up where the store has no table,
-/// no index and no view. No transaction may be open.
+/// no index and no view. With a transaction open it is [`OpenFault::Store`].
 pub fn find_or_set_up<S: Alter + Drop>(
     alloc: Global,
     conn: Connection<S>,
     registrar: &Token,
     day: Day,
 ) -> Result<Opened<SqlKeep<S>>, OpenFault>
-    requires { conn.in_transaction ≡ false }
     ensures { let keep = ⟦<SqlKeep<S> as Keep>⟧ in IfOk result (λ opened.
         ComesOpen keep.meaning registrar.now day (state S.Store conn)
         opened.register opened.origin) }
@@ -39,7 +38,6 @@ fn adopt<S: Alter + Drop>(
     alloc: Global,
     conn: Connection<S>,
 ) -> Result<Opened<SqlKeep<S>>, OpenFault>
-    requires { conn.in_transaction ≡ false }
     ensures origin { IfOk result (λ opened. opened.origin ≡ Origin.Found) }
     ensures began { let keep = ⟦<SqlKeep<S> as Keep>⟧ in IfOk result (λ opened.
         keep.meaning.is_clean opened.register → IsClean (state S.Store conn)) }
@@ -61,7 +59,6 @@ fn set_up_on<S: Alter + Drop>(
     registrar: &Token,
     day: Day,
 ) -> Result<Opened<SqlKeep<S>>, OpenFault>
-    requires { conn.in_transaction ≡ false }
     ensures origin { IfOk result (λ opened. opened.origin ≡ Origin.New) }
     ensures began { let keep = ⟦<SqlKeep<S> as Keep>⟧ in IfOk result (λ opened.
         keep.meaning.is_clean opened.register → IsClean (state S.Store conn)) }

@@ -1,5 +1,5 @@
 -- The registers that a connection shows of the files that it was opened on, and that closing it leaves in them.
-use Rattle.std.proofs.Common.{◌≡◌, Result, Ok, Err, IfOk, refl, subst, sym, ap, ◌∙◌}
+use Rattle.std.proofs.Common.{◌≡◌, refl, subst, sym, ap, ◌∙◌}
 use Rattle.std.proofs.Math.Logic.{∥∥₁_elim}
 use Rattle.sqlite.specs.State.{IsLive, Opens, State}
 use Rattle.sqlite.specs.Files.{AreFoundIn}
@@ -42,13 +42,3 @@ pub finds_still : (image : Image) (old new : State) → new.committed ≡ old.co
 finds_still image old new same found =
     let trees : new.committed.trees ≡ old.committed.trees = ap (λ db. db.trees) same in
     record { holds = λ db held. trees ∙ found.holds db held; reads = subst (AreFoundIn image) (sym trees) found.reads }
-
--- of what is answered `Ok` both hold
-pub ok_both : {K E : Type 0} {A B C : K → Type 0} (result : Result K E) → IfOk result A → IfOk result B → ((k : K) → A k → B k → C k) → IfOk result C
-ok_both (Ok k) a b so = so k a b
-ok_both (Err e) a b so = tt
-
--- the same of three
-pub ok_three : {K E : Type 0} {A B C D : K → Type 0} (result : Result K E) → IfOk result A → IfOk result B → IfOk result C → ((k : K) → A k → B k → C k → D k) → IfOk result D
-ok_three (Ok k) a b c so = so k a b c
-ok_three (Err e) a b c so = tt

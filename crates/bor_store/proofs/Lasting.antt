@@ -27,7 +27,7 @@ module _ {K : Type 0} (state_of : K → State) (faults : K → ℕ) (old new : K
   lasts_made {X} (Err error) told is up = subst (λ (t : Result X StoreFault). IfOk t (λ x. StaysClean (of_tables state_of faults) old new)) (sym is) tt
 
 -- what is open stays open
-pub stays_up : {X : Type 0} (made : Result X ReadError) (old new : State) → IfOk made (λ x. IsUp new) → IfOk made (λ x. StaysUp old new)
+pub stays_up : {X : Type 0} (made : Result X ReadError) (old new : State) → OnOk made (IsUp new) → IfOk made (λ x. StaysUp old new)
 stays_up (Ok x) old new up = λ clean was. up clean
 stays_up (Err error) old new up = tt
 

@@ -1,5 +1,5 @@
 -- The answer of a move, by the answers on the version of the tables and on the files.
-use Rattle.std.proofs.Common.{◌≡◌, ◌⊎◌, inl, inr, ℤ, pos, Bool, true, false, List, Option, Some, Vec, Result, Ok, Err, IsErrAnd, IsTrue, MatchResult, IfErr, OnErr, true≢false, refl, sym, ap, subst, ◌∙◌, arith}
+use Rattle.std.proofs.Common.{◌≡◌, ◌⊎◌, inl, inr, ℤ, pos, Bool, true, false, List, Option, Some, Vec, Result, Ok, Err, IsErrAnd, IsTrue, MatchResult, IfErr, true≢false, refl, sym, ap, subst, ◌∙◌, arith}
 use Rattle.std.specs.declared.alloc.Global.{Global}
 use Rattle.std.proofs.lemmas.Int.{ints}
 use Rattle.sqlite.specs.Order.{Row}
@@ -124,11 +124,6 @@ never_taken {X} P result told e = go (subst (λ r. IfErr r (λ fault. IsFailure 
     go (inl (inl h)) = absurd (let it = h in cc)
     go (inl (inr h)) = absurd (let it = h in cc)
     go (inr h) = absurd (let it = h in cc)
-
--- what a failed change leaves is what a read before it left
-pub kept_through : {X : Type 0} (old mid new : State) (result : Result X OpenFault) → OnErr result (new.committed ≡ mid.committed) → mid.committed ≡ old.committed → OnErr result (new.committed ≡ old.committed)
-kept_through old mid new (Ok x) h same = tt
-kept_through old mid new (Err fault) h same = h ∙ same
 
 -- ---- the files
 

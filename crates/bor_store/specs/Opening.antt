@@ -1,9 +1,9 @@
 -- The tables that are taken for a register, and the registers that files hold.
 use Rattle.std.specs.Prelude.{◌≡◌, ◌≢◌, ◌⊎◌, ℕ, ℤ, Bool, true, false, if◌then◌else◌, ◌||◌, ◌&&◌}
 use Rattle.std.specs.Prelude.{List, [], ◌∷◌, map, is_some, codes, Option, Some, None, Result, Ok}
-use Rattle.std.specs.Prelude.{Err, IsErrAnd, IsTrue}
+use Rattle.std.specs.Prelude.{Err, IsErrAnd, IsTrue, ⊤}
 use Rattle.std.specs.List.{list_any, list_all}
-use Rattle.sqlite.specs.Held.{Held, state}
+use Rattle.sqlite.specs.Held.{Held}
 use Rattle.sqlite.specs.Order.{Row, column}
 use Rattle.sqlite.specs.Schema.{Schema}
 use Rattle.sqlite.specs.Start.{FindsIn}
@@ -18,7 +18,6 @@ use Rattle.sqlite_wal.specs.Reads.{AreClean}
 use Rattle.sqlite_trees.specs.View.{IsClean as IsUnharmed}
 use Rattle.sqlite.specs.declared.error.Error.{Error}
 use Rattle.bor_store_reads.specs.Answering.{wants_memory}
-use Rattle.sqlite.specs.Store.{Ghosts}
 use Rattle.sqlite.specs.Table.{Table}
 use Rattle.sqlite.specs.declared.types.Value.{Value}
 use Rattle.sqlite.specs.declared.types.Value.TheVariants.{Int}
@@ -27,10 +26,12 @@ use Rattle.sqlite_wal.specs.Recovery.{Image}
 use Rattle.sqlite_schema.specs.Names.{same_name, table_named, index_named, view_named, column_named}
 use Rattle.bor_register.specs.Register.{Register}
 use Rattle.bor_store_sql.specs.Rows.Encoding.{first_version, tables_version}
-use Rattle.bor_store_sql.specs.Shown.{ShowsIn, Stands}
+use Rattle.bor_store_sql.specs.Found.{ReadsOnly}
+use Rattle.bor_store_sql.specs.Shown.{ShowsFirst, ShowsIn, Stands}
 use Rattle.bor_store_sql.specs.Texts.Tables.{first_schema, keep_schema, period_table}
 use Rattle.bor_store.specs.declared.open_fault.OpenFault.{OpenFault}
 use Rattle.bor_store.specs.declared.open_fault.OpenFault.TheVariants as faults
+use Rattle.bor_store.specs.declared.refused.Refused.{Refused}
 
 -- memory is wanting or the store failed
 abbrev pub IsFailure : OpenFault → Type 0
@@ -134,6 +135,18 @@ abbrev pub RefusesFirst : {X : Type 0} → Result X OpenFault → Type 0
 RefusesFirst result =
     IsErrAnd result (λ fault. IsFailure fault ⊎ (fault ≡ faults.OtherVersion first_version))
 
+-- ---- what comes back with a refusal
+
+-- the answer alone, without the connection of a refusal
+abbrev pub answer_of : {X C : Type 0} → Result X (Refused C) → Result X OpenFault
+answer_of (Ok x) = Ok x
+answer_of (Err refused) = Err refused.fault
+
+-- the connection of what was taken, or the one that was refused
+abbrev pub conn_in : {X C : Type 0} → (X → C) → Result X (Refused C) → C
+conn_in conn_of (Ok x) = conn_of x
+conn_in conn_of (Err refused) = refused.conn
+
 -- ---- the contents of files
 
 -- Two files, a database and its log, hold a register: they recover to trees that are a sound
@@ -150,6 +163,28 @@ pub record IsConnected (image : Image) (s : State) : Type 0 where
   pub found : FindsIn image s
   pub shows : (r : Register) → HoldsRegister image r → ShowsIn r s
 
+-- A connection to them that comes back with a refusal: it was opened, and then only read, and no
+-- transaction is open. The fault is what the tables make it; files that hold a register are refused
+-- where memory is wanting or the store failed, and else not.
+pub record IsRefused {D : Type 0} {g : Disk D} (image : Image) (fault : OpenFault)
+    (left : Held (FileStore D g)) : Type 0 where
+  pub opened : Held (FileStore D g)
+  pub settled : left.in_transaction ≡ false
+  pub connected : HasCleanDisk (file_state opened) → IsConnected image (file_state opened)
+  pub reads : ReadsOnly (file_state opened) (file_state left)
+  pub judged : HasCleanDisk (file_state left) → IsJudged {X = ⊤} (file_state opened) (Err fault)
+  pub shown : HasCleanDisk (file_state left) → (r : Register) → HoldsRegister image r
+      → IsFailure fault
+  pub first : HasCleanDisk (file_state left) → (r : Register) → ShowsFirst r (file_state opened)
+      → RefusesFirst {X = ⊤} (Err fault)
+
+-- the same where there may be no connection, since it can't be opened: memory is wanting or the
+-- store failed
+abbrev pub ComesBack : {D : Type 0} {g : Disk D} → Image → OpenFault
+    → Option (Held (FileStore D g)) → Type 0
+ComesBack image fault None = IsFailure fault
+ComesBack image fault (Some left) = IsRefused image fault left
+
 -- The result of closing a connection: two files that hold each register that it showed, as they
 -- read and after a crash, on a disk that returned what was written; or the error that the store
 -- returns.
@@ -160,7 +195,3 @@ IsClosing {D} {g} c (Ok files) =
     → outcomes g files.log files.db image → HoldsRegister image r
 IsClosing {D} {g} c (Err e) =
     (last : FileStore D g) × IsClosed c last × (IsUnharmed (view last) → FailsToClose c last e)
-
--- the disk of each such store returns what was written, as that of a store in memory does
-abbrev pub IsFaithful : {S : Type 0} → Ghosts S → Type 0
-IsFaithful {S} g = (h : Held S) → HasCleanDisk (state g h)

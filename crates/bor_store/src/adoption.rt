@@ -9,10 +9,11 @@ ghost use Rattle.bor_register.specs.Register.{Register};
 ghost use Rattle.bor_store_sql.specs.Rows.Encoding.{tables_version};
 ghost use Rattle.bor_store_sql.specs.Shown.{IsClean, IsUp, ShowsFirst, ShowsIn};
 ghost use Rattle.bor_store_sql.specs.Found.{AnswersQuery, ReadsOnly};
-ghost use Rattle.bor_store.specs.Opening.{AreVersions, IsFailure, IsFaithful, IsJudged, IsRegister, RefusesFirst, has_all, has_first, is_versioned, version_in, version_text};
+ghost use Rattle.bor_store.specs.Opening.{AreVersions, IsFailure, IsJudged, IsRegister, RefusesFirst, answer_of, conn_in, has_all, has_first, is_versioned, version_in, version_text};
 ghost use Rattle.bor_store.specs.declared.open_fault.OpenFault.TheVariants as faults;
 
 use crate::open_fault::OpenFault;
+use crate::refused::Refused;
 use crate::sql_keep::SqlKeep;
 use bor_store_keys::Lookup;
 use bor_store_sql::texts::changes::VERSION;
@@ -105,18 +106,18 @@ pub(crate) fn has_all(schema: &Schema) -> bool
     has_first(schema) && has_table(schema, "period", &PERIOD)
 }
 
-/// The versions that the table `register` tells, a row each.
+/// The versions that the table `register` tells, a row each. A connection with a transaction open is
+/// refused.
 pub(crate) fn version_rows<S: Alter>(conn: &mut Connection<S>) -> Result<Vec<Row>, Error>
-    requires { conn.old.in_transaction ≡ false }
-    ensures mode { conn.new.in_transaction ≡ false }
     ensures asked { AnswersQuery version_text [] (state S.Store conn.old) (state S.Store conn.new) result }
     ensures versions { HasCleanDisk (state S.Store conn.new)
         → IfOk result (λ rows. AreVersions (state S.Store conn.old) rows.items) }
     ensures same { HasCleanDisk (state S.Store conn.new)
         → OnOk result ((state S.Store conn.new).now ≡ (state S.Store conn.old).now) }
 {
-    // Its clause says that the connection shows what the last commit left.
-    let _settled = conn.is_autocommit();
+    if !conn.is_autocommit() {
+        return Err(Error::SqliteFailure(ErrorCode::TransactionState));
+    }
     conn.query_all(VERSIONS, &[])
 }
 
@@ -152,16 +153,19 @@ fn judge(version: i64, is_whole: bool) -> Result<(), OpenFault>
 }
 
 /// Whether the tables of a connection are those of a register, as [`SqlKeep::adopt`] asks. The
-/// connection is only read (`ReadsOnly`). No transaction may be open. If the disk has returned what
-/// was written, the faults other than `Memory` and `Store` are, in their order:
-/// [`OpenFault::NoRegister`] where there is no table `register` with the columns `one` and
+/// connection is only read (`ReadsOnly`); with a transaction open it is [`OpenFault::Store`]. If the
+/// disk has returned what was written, the faults other than `Memory` and `Store` are, in their
+/// order: [`OpenFault::NoRegister`] where there is no table `register` with the columns `one` and
 /// `version`, or not exactly one row in it, with a whole version; [`OpenFault::OtherVersion`] where
 /// that isn't 2; `NoRegister` where another table or column of a register is missing.
 #[tactic(auto, using(crate::proofs::Judging::fault_fails))]
 pub fn examine<S: Alter>(conn: &mut Connection<S>) -> Result<(), OpenFault>
-    requires { conn.old.in_transaction ≡ false }
     ensures reads { ReadsOnly (state S.Store conn.old) (state S.Store conn.new) }
-    ensures bare { is_versioned (state S.Store conn.old).now.schema ≡ false
+    ensures busy { IsTrue conn.old.in_transaction
+        → (result ≡ Err faults.Store) × (conn.new ≡ conn.old) }
+    ensures settled { OnOk result (conn.old.in_transaction ≡ false) }
+    ensures bare { conn.old.in_transaction ≡ false
+        → is_versioned (state S.Store conn.old).now.schema ≡ false
         → result ≡ Err faults.NoRegister }
     ensures other { (n : ℤ) → result ≡ Err (faults.OtherVersion n) → n ≢ tables_version }
     ensures whole { OnOk result (IsTrue (has_all (state S.Store conn.old).now.schema)) }
@@ -175,7 +179,9 @@ pub fn examine<S: Alter>(conn: &mut Connection<S>) -> Result<(), OpenFault>
     ensures first { HasCleanDisk (state S.Store conn.new) → IsTrue (state S.Store conn.old).is_open
         → (r : Register) → ShowsFirst r (state S.Store conn.old) → RefusesFirst result }
 {
-    let _settled = conn.is_autocommit();
+    if !conn.is_autocommit() {
+        return Err(OpenFault::Store);
+    }
     if !is_versioned(conn.schema()) {
         return Err(OpenFault::NoRegister);
     }
@@ -186,30 +192,34 @@ pub fn examine<S: Alter>(conn: &mut Connection<S>) -> Result<(), OpenFault>
 }
 
 impl<S: Alter + Drop> SqlKeep<S> {
-    /// The register that the tables of a connection are. No transaction may be open. The tables are
-    /// only read; after a fault the connection is dropped, and the clauses say nothing of the
-    /// tables then. If the disk has returned what was written, the faults other than `Memory` and
-    /// `Store` are, in their order: [`OpenFault::NoRegister`] where there is no table `register`
-    /// with the columns `one` and `version`, or not exactly one row in it, with a whole version;
+    /// The register that the tables of a connection are, which are only read (`ReadsOnly`). A
+    /// refusal gives the connection back. With a transaction open it is [`OpenFault::Store`]. If the
+    /// disk has returned what was written, the faults other than `Memory` and `Store` are, in their
+    /// order: [`OpenFault::NoRegister`] where there is no table `register` with the columns `one`
+    /// and `version`, or not exactly one row in it, with a whole version;
     /// [`OpenFault::OtherVersion`] where that isn't 2; `NoRegister` where another table or column
     /// of a register is missing.
-    pub fn adopt(alloc: Global, conn: Connection<S>) -> Result<SqlKeep<S>, OpenFault>
-        requires { conn.in_transaction ≡ false }
-        ensures bare { is_versioned (state S.Store conn).now.schema ≡ false
-            → result ≡ Err faults.NoRegister }
-        ensures other { (n : ℤ) → result ≡ Err (faults.OtherVersion n) → n ≢ tables_version }
+    pub fn adopt(alloc: Global, conn: Connection<S>) -> Result<SqlKeep<S>, Refused<Connection<S>>>
+        ensures reads { ReadsOnly (state S.Store conn)
+            (state S.Store (conn_in (λ k. k.conn) result)) }
+        ensures busy { IsTrue conn.in_transaction → answer_of result ≡ Err faults.Store }
+        ensures settled { OnOk result (conn.in_transaction ≡ false) }
+        ensures bare { conn.in_transaction ≡ false
+            → is_versioned (state S.Store conn).now.schema ≡ false
+            → answer_of result ≡ Err faults.NoRegister }
+        ensures other { (n : ℤ) → answer_of result ≡ Err (faults.OtherVersion n)
+            → n ≢ tables_version }
         ensures whole { IfOk result (λ k. IsTrue (has_all (state S.Store conn).now.schema)) }
-        ensures adopted { IfOk result (λ k.
-            HasCleanDisk (state S.Store k.conn) → IsJudged (state S.Store conn) result) }
-        ensures refused { IsFaithful S.Store → IsJudged (state S.Store conn) result }
-        ensures shown { IsFaithful S.Store → IsTrue (state S.Store conn).is_open → (r : Register)
-            → ShowsIn r (state S.Store conn) → IfErr result IsFailure }
-        ensures first { IsFaithful S.Store → IsTrue (state S.Store conn).is_open
-            → (r : Register) → ShowsFirst r (state S.Store conn) → RefusesFirst result }
+        ensures judged { HasCleanDisk (state S.Store (conn_in (λ k. k.conn) result))
+            → IsJudged (state S.Store conn) (answer_of result) }
+        ensures shown { HasCleanDisk (state S.Store (conn_in (λ k. k.conn) result))
+            → IsTrue (state S.Store conn).is_open → (r : Register)
+            → ShowsIn r (state S.Store conn) → IfErr (answer_of result) IsFailure }
+        ensures first { HasCleanDisk (state S.Store (conn_in (λ k. k.conn) result))
+            → IsTrue (state S.Store conn).is_open → (r : Register)
+            → ShowsFirst r (state S.Store conn) → RefusesFirst (answer_of result) }
         ensures is { IfOk result (λ k.
             HasCleanDisk (state S.Store k.conn) → IsRegister (state S.Store k.conn)) }
-        ensures kept { IfOk result (λ k. IsClean (state S.Store k.conn)
-            → (state S.Store k.conn).committed ≡ (state S.Store conn).committed) }
         ensures up { IfOk result (λ k. IsUp (state S.Store k.conn)) }
         ensures began { IfOk result (λ k.
             IsClean (state S.Store k.conn) → IsClean (state S.Store conn)) }
@@ -222,12 +232,14 @@ impl<S: Alter + Drop> SqlKeep<S> {
         ensures unfaulted { IfOk result (λ k. k.faults ≡ 0) }
     {
         let mut conn = conn;
-        examine(&mut conn)?;
-        Ok(SqlKeep {
-            alloc,
-            conn: Lookup::new(conn),
-            faults: 0,
-        })
+        match examine(&mut conn) {
+            Ok(()) => Ok(SqlKeep {
+                alloc,
+                conn: Lookup::new(conn),
+                faults: 0,
+            }),
+            Err(fault) => Err(Refused { fault, conn }),
+        }
     }
 
     /// The connection, which shows what the keep showed, with no transaction open.

@@ -1,11 +1,10 @@
 //! The next filing of an agent.
 
-ghost use Rattle.std.specs.Prelude.{◌≡◌, ◌+◌, ◌<◌, false, true, length, IfOk, IfErr, OnErr};
+ghost use Rattle.std.specs.Prelude.{◌≡◌, ◌+◌, ◌<◌, true, length, IfOk, IfErr};
 ghost use Rattle.sqlite.specs.Held.{state};
-ghost use Rattle.sqlite.specs.State.{HasCleanDisk};
 ghost use Rattle.bor_register.specs.Limits.{filings_limit};
 ghost use Rattle.bor_register.specs.Register.{Register, is_enrolled, filings_of};
-ghost use Rattle.bor_store_sql.specs.Shown.{IsClean, IsUp, LeavesAtMost, ShowsIn, Stands};
+ghost use Rattle.bor_store_sql.specs.Shown.{Commits, IsClean, LeavesAtMost, ShowsIn, Stands};
 ghost use Rattle.bor_store_sql.specs.Changing.{added};
 ghost use Rattle.bor_store_reads.specs.Answering.{IsNoDamage, ReadsIn};
 ghost use Rattle.bor_store.specs.Telling.{IsNextFiling};
@@ -37,7 +36,8 @@ fn next_number<S: Alter>(
     }
 }
 
-/// Adds the agent's next filing, and gives its number.
+/// Adds the agent's next filing, and gives its number. A connection with a transaction open is
+/// refused.
 pub(crate) fn add_next_filing<S: Alter>(
     conn: &mut Connection<S>,
     alloc: Global,
@@ -47,11 +47,7 @@ pub(crate) fn add_next_filing<S: Alter>(
     bytes: &[u8],
     statements: &[Statement],
 ) -> Result<u32, ReadError>
-    requires { conn.old.in_transaction ≡ false }
-    ensures mode { conn.new.in_transaction ≡ false }
-    ensures clean { HasCleanDisk (state S.Store conn.new) → HasCleanDisk (state S.Store conn.old) }
-    ensures up { IfOk result (λ _. IsUp (state S.Store conn.new)) }
-    ensures began { IsClean (state S.Store conn.new) → IsClean (state S.Store conn.old) }
+    ensures commits { Commits (state S.Store conn.old) (state S.Store conn.new) result }
     ensures made { IsClean (state S.Store conn.new) → (r : Register)
         → ShowsIn r (state S.Store conn.old)
         → is_enrolled agent.now r.members ≡ true
@@ -59,8 +55,6 @@ pub(crate) fn add_next_filing<S: Alter>(
         → IfOk result (λ number.
         IsNextFiling number (length (filings_of agent.now r.members))
         (added agent.now key.now due bytes.now statements.now r) (state S.Store conn.new)) }
-    ensures kept { IsClean (state S.Store conn.new)
-        → OnErr result ((state S.Store conn.new).committed ≡ (state S.Store conn.old).committed) }
     ensures stops { LeavesAtMost (λ trees. (r : Register) → ShowsIn r (state S.Store conn.old)
         → is_enrolled agent.now r.members ≡ true
         → length (filings_of agent.now r.members) < filings_limit

@@ -1,11 +1,11 @@
 //! The move of tables of version 1 to version 2.
 
-ghost use Rattle.std.specs.Prelude.{◌≡◌, ◌⊎◌, true, false, Err, IfErr, IsErrAnd, IsTrue, MatchResult, OnErr};
+ghost use Rattle.std.specs.Prelude.{◌≡◌, ◌⊎◌, true, false, Err, IfErr, IsErrAnd, IsTrue, MatchResult, OnOk};
 ghost use Rattle.sqlite.specs.Held.{state};
 ghost use Rattle.sqlite.specs.State.{HasCleanDisk};
 ghost use Rattle.bor_desk.specs.Operations.Legality.{IsLegal};
 ghost use Rattle.bor_register.specs.Register.{Register};
-ghost use Rattle.bor_store_sql.specs.Shown.{IsClean, LeavesAtMost, ShowsFirst, ShowsIn, Stands};
+ghost use Rattle.bor_store_sql.specs.Shown.{Commits, IsClean, IsUp, LeavesAtMost, ShowsFirst, ShowsIn, Stands};
 ghost use Rattle.bor_store_sql.specs.Found.{ReadsOnly};
 ghost use Rattle.bor_store.specs.Opening.{IsFailure, is_period_used, is_used, is_versioned, version_in};
 ghost use Rattle.bor_store.specs.Migrating.{IsMoveJudged, IsVersionJudged, Migrates, TellsVersion};
@@ -58,9 +58,13 @@ fn version_told(rows: &[Row], first: bool, used: bool, second: bool) -> Result<b
 // Whether the tables of a connection are of version 1, and not of version 2.
 #[tactic(auto, using(crate::proofs::Judging::fault_fails))]
 fn is_first<S: Alter>(conn: &mut Connection<S>) -> Result<bool, OpenFault>
-    requires { conn.old.in_transaction ≡ false }
     ensures reads { ReadsOnly (state S.Store conn.old) (state S.Store conn.new) }
-    ensures bare { is_versioned (state S.Store conn.old).now.schema ≡ false
+    ensures busy { IsTrue conn.old.in_transaction
+        → (result ≡ Err faults.Store) × (conn.new ≡ conn.old) }
+    ensures settled { OnOk result (conn.old.in_transaction ≡ false) }
+    ensures up { OnOk result (IsUp (state S.Store conn.new)) }
+    ensures bare { conn.old.in_transaction ≡ false
+        → is_versioned (state S.Store conn.old).now.schema ≡ false
         → result ≡ Err faults.NoRegister }
     ensures taken { result ≡ Err faults.Taken
         → IsTrue (is_period_used (state S.Store conn.old).now.schema) }
@@ -73,8 +77,9 @@ fn is_first<S: Alter>(conn: &mut Connection<S>) -> Result<bool, OpenFault>
         → (r : Register) → ShowsIn r (state S.Store conn.old)
         → MatchResult result (λ first. first ≡ false) IsFailure }
 {
-    // Its clause says that the connection shows what the last commit left.
-    let _settled = conn.is_autocommit();
+    if !conn.is_autocommit() {
+        return Err(OpenFault::Store);
+    }
     if !is_versioned(conn.schema()) {
         return Err(OpenFault::NoRegister);
     }
@@ -88,13 +93,10 @@ fn is_first<S: Alter>(conn: &mut Connection<S>) -> Result<bool, OpenFault>
 // Moves tables of version 1.
 #[tactic(auto, using(crate::proofs::Judging::fault_fails))]
 fn move_first<S: Alter>(conn: &mut Connection<S>, alloc: Global) -> Result<(), OpenFault>
-    requires { conn.old.in_transaction ≡ false }
-    ensures mode { conn.new.in_transaction ≡ false }
-    ensures clean { HasCleanDisk (state S.Store conn.new) → HasCleanDisk (state S.Store conn.old) }
-    ensures began { IsClean (state S.Store conn.new) → IsClean (state S.Store conn.old) }
-    ensures kept { IsClean (state S.Store conn.new)
-        → OnErr result ((state S.Store conn.new).committed ≡ (state S.Store conn.old).committed) }
+    ensures commits { Commits (state S.Store conn.old) (state S.Store conn.new) result }
     ensures told { IfErr result (λ fault. IsFailure fault ⊎ (fault ≡ faults.Damaged)) }
+    ensures refused { IfErr result (λ fault. IsFailure fault
+        ⊎ ReadsOnly (state S.Store conn.old) (state S.Store conn.new)) }
     ensures migrated { IsClean (state S.Store conn.new)
         → (r : Register) → ShowsFirst r (state S.Store conn.old)
         → Migrates r (state S.Store conn.new) result }
@@ -108,24 +110,26 @@ fn move_first<S: Alter>(conn: &mut Connection<S>, alloc: Global) -> Result<(), O
 
 /// Moves the tables of a register from version 1 to version 2, in one transaction: the table
 /// `period` is made and filled from the files of the live filings, and the version is set. Tables
-/// of version 2 stay as they are. No transaction may be open. First [`OpenFault::NoRegister`] comes
-/// where there is no table `register` with the columns `one` and `version`, or not exactly one row
-/// in it, with a whole version; then [`OpenFault::OtherVersion`] where that is neither 1 nor 2;
-/// then `NoRegister` where another table or column of a register of this version is missing. Of
-/// version 1 [`OpenFault::Taken`] comes where a table, an index or a view is named `period`, and
-/// then [`OpenFault::Damaged`] where the reader refuses the file of a live filing, or what it is
-/// read to isn't what the tables have of the filing, but for statuses that it leaves out and for
-/// days, or a row of a filing has a value of no form. A fault leaves the tables as they were,
-/// unless the store shut in its commit. Then the next opening finds the tables as they were, or, of
-/// a legal register, all of them moved, if the disk has returned what was written.
+/// of version 2 stay as they are. With a transaction open it is [`OpenFault::Store`], and nothing is
+/// done. Else [`OpenFault::NoRegister`] comes first, where there is no table `register` with the
+/// columns `one` and `version`, or not exactly one row in it, with a whole version; then
+/// [`OpenFault::OtherVersion`] where that is neither 1 nor 2; then `NoRegister` where another table
+/// or column of a register of this version is missing. Of version 1 [`OpenFault::Taken`] comes where
+/// a table, an index or a view is named `period`, and then [`OpenFault::Damaged`] where the reader
+/// refuses the file of a live filing, or what it is read to isn't what the tables have of the
+/// filing, but for statuses that it leaves out and for days, or a row of a filing has a value of no
+/// form. A fault other than `Memory` and `Store` comes before anything is written (`ReadsOnly`).
+/// These two leave the tables as they were, unless the store shut in its commit. Then the next
+/// opening finds the tables as they were, or, of a legal register, all of them moved, if the disk
+/// has returned what was written.
 pub fn migrate<S: Alter>(conn: &mut Connection<S>, alloc: Global) -> Result<(), OpenFault>
-    requires { conn.old.in_transaction ≡ false }
-    ensures mode { conn.new.in_transaction ≡ false }
-    ensures clean { HasCleanDisk (state S.Store conn.new) → HasCleanDisk (state S.Store conn.old) }
-    ensures began { IsClean (state S.Store conn.new) → IsClean (state S.Store conn.old) }
-    ensures kept { IsClean (state S.Store conn.new)
-        → OnErr result ((state S.Store conn.new).committed ≡ (state S.Store conn.old).committed) }
-    ensures bare { is_versioned (state S.Store conn.old).now.schema ≡ false
+    ensures commits { Commits (state S.Store conn.old) (state S.Store conn.new) result }
+    ensures refused { IfErr result (λ fault. IsFailure fault
+        ⊎ ReadsOnly (state S.Store conn.old) (state S.Store conn.new)) }
+    ensures busy { IsTrue conn.old.in_transaction
+        → (result ≡ Err faults.Store) × (conn.new ≡ conn.old) }
+    ensures bare { conn.old.in_transaction ≡ false
+        → is_versioned (state S.Store conn.old).now.schema ≡ false
         → result ≡ Err faults.NoRegister }
     ensures taken { result ≡ Err faults.Taken
         → IsTrue (is_period_used (state S.Store conn.old).now.schema) }

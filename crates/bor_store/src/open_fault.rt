@@ -33,7 +33,7 @@ pub enum OpenFault {
     /// Memory was wanting.
     #[error("out of memory")]
     Memory,
-    /// The store failed, or the file is no database.
+    /// The store failed, the file is no database, or a transaction is open.
     #[error("the store failed")]
     Store,
 }

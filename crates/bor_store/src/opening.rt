@@ -7,9 +7,10 @@ ghost use Rattle.sqlite.specs.State.{HasCleanDisk};
 ghost use Rattle.sqlite_wal.specs.Files.{image_at};
 ghost use Rattle.bor_register.specs.Register.{Register};
 ghost use Rattle.bor_store_sql.specs.Shown.{IsClean, IsUp, ShowsIn};
-ghost use Rattle.bor_store.specs.Opening.{HoldsRegister, IsClosing, IsConnected, IsFailure, IsRegister};
+ghost use Rattle.bor_store.specs.Opening.{ComesBack, HoldsRegister, IsClosing, IsConnected, IsFailure, IsRegister};
 
 use crate::open_fault::OpenFault;
+use crate::refused::Refused;
 use crate::sql_keep::SqlKeep;
 use sqlite::{Connection, Error, FileFrom, FileStore, Files, Start};
 use sqlite_disk::Disk;
@@ -38,12 +39,16 @@ impl<S: Start> SqlKeep<FileStore<FileFrom<S>>> {
     /// The register in the file of this path, which is made where there is none; `start` stands for
     /// what the file and its log hold. The tables that it has are those of a register, as
     /// [`SqlKeep::adopt`] asks, and they are what the files recover to. `:memory:` and files that
-    /// are no database are [`OpenFault::Store`]; the rest is [`SqlKeep::adopt`]'s.
+    /// are no database are [`OpenFault::Store`], without a connection; the rest is
+    /// [`SqlKeep::adopt`]'s, with the connection, over which the tables were only read.
     pub fn open(
         rt: &HostRuntime,
         path: &str,
         start: S,
-    ) -> Result<SqlKeep<FileStore<FileFrom<S>>>, OpenFault>
+    ) -> Result<
+        SqlKeep<FileStore<FileFrom<S>>>,
+        Refused<Option<Connection<FileStore<FileFrom<S>>>>>,
+    >
         ensures up { IfOk result (λ k. IsUp (file_state k.conn)) }
         ensures is { IfOk result (λ k.
             HasCleanDisk (file_state k.conn) → IsRegister (file_state k.conn)) }
@@ -55,9 +60,19 @@ impl<S: Start> SqlKeep<FileStore<FileFrom<S>>> {
             (r q : Register) → ShowsIn r (file_state k.conn)
             → ShowsIn q (file_state k.conn) → r ≡ q) }
         ensures unfaulted { IfOk result (λ k. k.faults ≡ 0) }
+        ensures refused { IfErr result (λ refused.
+            ComesBack (image_at S.Start) refused.fault refused.conn) }
     {
-        let conn = connect(rt, path, start)?;
-        SqlKeep::adopt(rt.alloc(), conn)
+        match connect(rt, path, start) {
+            Ok(conn) => match SqlKeep::adopt(rt.alloc(), conn) {
+                Ok(register) => Ok(register),
+                Err(Refused { fault, conn }) => Err(Refused {
+                    fault,
+                    conn: Some(conn),
+                }),
+            },
+            Err(fault) => Err(Refused { fault, conn: None }),
+        }
     }
 }
 

@@ -24,15 +24,16 @@ fn is_bare(schema: &Schema) -> bool
 
 /// Sets up a register of this day and registrar with no agents and no filings, in one transaction,
 /// in a store that has no table, no index and no view; of any other it is [`OpenFault::Taken`], and
-/// the store stays as it was. What SQL here doesn't read stays as it was too. Another fault leaves
-/// what the last commit left, unless the store shut in its commit.
+/// the store stays as it was. What SQL here doesn't read stays as it was too. With a transaction
+/// open it is [`OpenFault::Store`]. Another fault than `Taken` leaves what the last commit left,
+/// unless the store shut in its commit.
 pub fn set_up<S: Alter>(
     conn: &mut Connection<S>,
     registrar: &Token,
     day: Day,
 ) -> Result<(), OpenFault>
-    requires { conn.old.in_transaction ≡ false }
-    ensures mode { conn.new.in_transaction ≡ false }
+    ensures mode { conn.new.in_transaction ≡ conn.old.in_transaction }
+    ensures settled { OnOk result (conn.old.in_transaction ≡ false) }
     ensures clean { HasCleanDisk (state S.Store conn.new) → HasCleanDisk (state S.Store conn.old) }
     ensures up { OnOk result (IsUp (state S.Store conn.new)) }
     ensures began { IsClean (state S.Store conn.new) → IsClean (state S.Store conn.old) }
@@ -53,10 +54,11 @@ pub fn set_up<S: Alter>(
         (SetsUpIn (empty_register registrar.now day) (state S.Store conn.old).committed)
         (state S.Store conn.old) (state S.Store conn.new) }
 {
-    // Its clause says that the connection shows what the last commit left.
-    let _settled = conn.is_autocommit();
     if !is_bare(conn.schema()) {
         return Err(OpenFault::Taken);
+    }
+    if !conn.is_autocommit() {
+        return Err(OpenFault::Store);
     }
     make_tables(conn, registrar, day)?;
     Ok(())

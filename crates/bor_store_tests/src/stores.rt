@@ -50,13 +50,11 @@ pub(crate) fn setting_up<S: Alter>(
 ) -> Option<OpenFault> {
     let registrar = registrar(rt, alloc);
     let day = day(rt, "2024-02-01");
-    assert!(rt; conn.is_autocommit());
     set_up(conn, &registrar, day).err()
 }
 
 /// The fault of what the tables are, if they are no register's.
 pub(crate) fn examined<S: Alter>(rt: &impl Abort, conn: &mut Connection<S>) -> Option<OpenFault> {
-    assert!(rt; conn.is_autocommit());
     examine(conn).err()
 }
 
@@ -66,8 +64,7 @@ pub(crate) fn adopting<S: Alter + Drop>(
     alloc: Global,
     conn: Connection<S>,
 ) -> Result<SqlKeep<S>, OpenFault> {
-    assert!(rt; conn.is_autocommit());
-    SqlKeep::adopt(alloc, conn)
+    Ok(SqlKeep::adopt(alloc, conn)?)
 }
 
 /// Moves the tables to version 2; the fault where it is refused.
@@ -76,7 +73,6 @@ pub(crate) fn moving<S: Alter>(
     alloc: Global,
     conn: &mut Connection<S>,
 ) -> Option<OpenFault> {
-    assert!(rt; conn.is_autocommit());
     migrate(conn, alloc).err()
 }
 

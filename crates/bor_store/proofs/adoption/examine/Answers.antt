@@ -1,4 +1,4 @@
-use Rattle.std.proofs.Common.{◌≡◌, ◌∙◌, Some, inl, pos, true, true≢false, IsTrue, FitsSigned, w64, not, sym, ap, arith}
+use Rattle.std.proofs.Common.{◌≡◌, ◌∙◌, Some, inl, pos, true, true≢false, FitsSigned, w64, sym, ap, arith}
 use Rattle.std.proofs.lemmas.Int.{ints, to_z-of_z}
 use Rattle.std.proofs.lemmas.Result.{err_from_is_err_and}
 use Rattle.sqlite.specs.Held.{state}
@@ -11,16 +11,14 @@ use Rattle.bor_store.proofs.adoption.examine.Goals as goal
 pub returns-then-not-is_versioned-clause-shown : goal.returns-then-not-is_versioned-clause-shown
 returns-then-not-is_versioned-clause-shown g c clean open_still r shows =
     let was = state g.S.Store c.args.conn.now in
-    let auto : IsTrue c.is_autocommit-settled.result = c.is_autocommit-settled.ensures.value ∙ ap not c.requires in
-    let schema : was.now.schema ≡ keep_schema = ap (λ db. db.schema) (c.is_autocommit-settled.ensures.settled auto open_still) ∙ shows.has.schema in
+    let schema : was.now.schema ≡ keep_schema = ap (λ db. db.schema) (c.is_autocommit.ensures.settled c.if-not-is_autocommit.false open_still) ∙ shows.has.schema in
     let yes : is_versioned was.now.schema ≡ true = ap is_versioned schema ∙ keep_is_versioned in
     absurd (true≢false (sym yes ∙ ap is_versioned (sym c.schema.ensures.value) ∙ sym c.is_versioned.ensures ∙ c.if-not-is_versioned.true))
 
 pub returns-in_err-version-clause-shown : goal.returns-in_err-version-clause-shown
 returns-in_err-version-clause-shown g c clean open_still r shows =
     let was = state g.S.Store c.args.conn.now in
-    let auto : IsTrue c.is_autocommit-settled.result = c.is_autocommit-settled.ensures.value ∙ ap not c.requires in
-    let settled = c.is_autocommit-settled.ensures.settled auto open_still in
+    let settled = c.is_autocommit.ensures.settled c.if-not-is_autocommit.false open_still in
     let found = version_found r was was c.in_ok-rows.rows.items shows (settled, c.in_ok-rows.ensures.versions clean) in
     let version : version_in c.as_slice.result.now ≡ Some (pos 2) = ap version_in (c.as_slice.ensures.value ∙ found) in
     let p = err_from_is_err_and c.from_residual-in_err-version.result c.from_residual-in_err-version.ensures.1 in
@@ -29,8 +27,7 @@ returns-in_err-version-clause-shown g c clean open_still r shows =
 pub returns-clause-shown : goal.returns-clause-shown
 returns-clause-shown g c clean open_still r shows =
     let was = state g.S.Store c.args.conn.now in
-    let auto : IsTrue c.is_autocommit-settled.result = c.is_autocommit-settled.ensures.value ∙ ap not c.requires in
-    let settled = c.is_autocommit-settled.ensures.settled auto open_still in
+    let settled = c.is_autocommit.ensures.settled c.if-not-is_autocommit.false open_still in
     let found = version_found r was was c.in_ok-rows.rows.items shows (settled, c.in_ok-rows.ensures.versions clean) in
     let version : version_in c.as_slice.result.now ≡ Some (pos 2) = ap version_in (c.as_slice.ensures.value ∙ found) in
     let schema : was.now.schema ≡ keep_schema = ap (λ db. db.schema) settled ∙ shows.has.schema in
@@ -42,16 +39,14 @@ returns-clause-shown g c clean open_still r shows =
 pub returns-then-not-is_versioned-clause-first : goal.returns-then-not-is_versioned-clause-first
 returns-then-not-is_versioned-clause-first g c clean open_still r shows =
     let was = state g.S.Store c.args.conn.now in
-    let auto : IsTrue c.is_autocommit-settled.result = c.is_autocommit-settled.ensures.value ∙ ap not c.requires in
-    let schema : was.now.schema ≡ first_schema = ap (λ db. db.schema) (c.is_autocommit-settled.ensures.settled auto open_still) ∙ shows.has.schema in
+    let schema : was.now.schema ≡ first_schema = ap (λ db. db.schema) (c.is_autocommit.ensures.settled c.if-not-is_autocommit.false open_still) ∙ shows.has.schema in
     let yes : is_versioned was.now.schema ≡ true = ap is_versioned schema ∙ first_is_versioned in
     absurd (true≢false (sym yes ∙ ap is_versioned (sym c.schema.ensures.value) ∙ sym c.is_versioned.ensures ∙ c.if-not-is_versioned.true))
 
 pub returns-in_err-version-clause-first : goal.returns-in_err-version-clause-first
 returns-in_err-version-clause-first g c clean open_still r shows =
     let was = state g.S.Store c.args.conn.now in
-    let auto : IsTrue c.is_autocommit-settled.result = c.is_autocommit-settled.ensures.value ∙ ap not c.requires in
-    let settled = c.is_autocommit-settled.ensures.settled auto open_still in
+    let settled = c.is_autocommit.ensures.settled c.if-not-is_autocommit.false open_still in
     let found = first_found r was was c.in_ok-rows.rows.items shows (settled, c.in_ok-rows.ensures.versions clean) in
     let version : version_in c.as_slice.result.now ≡ Some (pos 1) = ap version_in (c.as_slice.ensures.value ∙ found) in
     let p = err_from_is_err_and c.from_residual-in_err-version.result c.from_residual-in_err-version.ensures.1 in
@@ -60,8 +55,7 @@ returns-in_err-version-clause-first g c clean open_still r shows =
 pub returns-clause-first : goal.returns-clause-first
 returns-clause-first g c clean open_still r shows =
     let was = state g.S.Store c.args.conn.now in
-    let auto : IsTrue c.is_autocommit-settled.result = c.is_autocommit-settled.ensures.value ∙ ap not c.requires in
-    let settled = c.is_autocommit-settled.ensures.settled auto open_still in
+    let settled = c.is_autocommit.ensures.settled c.if-not-is_autocommit.false open_still in
     let found = first_found r was was c.in_ok-rows.rows.items shows (settled, c.in_ok-rows.ensures.versions clean) in
     let version : version_in c.as_slice.result.now ≡ Some (pos 1) = ap version_in (c.as_slice.ensures.value ∙ found) in
     let one = told_once c.in_ok-version.version (pos 1) c.as_slice.result.now c.in_ok-version.ensures version in

@@ -1,7 +1,8 @@
-use Rattle.std.proofs.Common.{List, Vec, [], IsTrue, not, ap, sym, ◌∙◌}
+use Rattle.std.proofs.Common.{◌≡◌, List, Vec, [], false, sym, ◌∙◌, rules}
 use Rattle.std.specs.declared.alloc.Global.{Global}
 use Rattle.sqlite.specs.Order.{Row}
 use Rattle.sqlite.specs.Held.{state}
+use Rattle.sqlite.specs.State.{HasCleanDisk}
 use Rattle.bor_store_sql.proofs.Finding.{known, settled_shown}
 use Rattle.bor_store_sql.proofs.Keeping.{leaves_no_more, left_by, up_by}
 use Rattle.bor_store_sql.proofs.Moves.{was_clean}
@@ -16,19 +17,19 @@ pub returns-clause-asked : goal.returns-clause-asked
 returns-clause-asked g c =
     let old = state g.S.Store c.args.conn.now in
     let new = state g.S.Store c.query_all.new.self in
-    let auto : IsTrue c.is_autocommit-settled.result = c.is_autocommit-settled.ensures.value ∙ ap not c.requires in
+    let alone : old.in_transaction ≡ false = search rules in
+    let left = λ (disk : HasCleanDisk new). left_by old new version_text version_asks [] rows_in c.query_all.result (c.query_all.ensures.ok disk) (c.query_all.ensures.err disk) in
     record {
       reads = record {
-        mode = c.query_all.ensures.mode c.requires ∙ sym c.requires;
+        mode = c.query_all.ensures.mode alone ∙ sym alone;
         clean = was_clean old new _ c.query_all.ensures.survives;
         stops = leaves_no_more old new version_text version_asks [] c.query_all.ensures.survives;
-        began = λ clean. (was_clean old new _ c.query_all.ensures.survives clean.0, (left_by old new version_text version_asks [] rows_in c.query_all.result (c.query_all.ensures.ok clean.0) (c.query_all.ensures.err clean.0)).was_open clean.1);
-        kept = λ clean. (left_by old new version_text version_asks [] rows_in c.query_all.result (c.query_all.ensures.ok clean.0) (c.query_all.ensures.err clean.0)).committed clean.1;
+        began = λ clean. (was_clean old new _ c.query_all.ensures.survives clean.0, (left clean.0).was_open clean.1);
+        kept = λ clean. (left clean.0).committed clean.1;
       };
-      settled = known c.query_all.result c.requires;
+      settled = known c.query_all.result alone;
       up = up_by old new version_text version_asks [] rows_in c.query_all.result c.query_all.ensures.ok;
-      shown = λ clean. settled_shown version_text [] old new
-          (c.is_autocommit-settled.ensures.settled auto ((left_by old new version_text version_asks [] rows_in c.query_all.result (c.query_all.ensures.ok clean.0) (c.query_all.ensures.err clean.0)).was_open clean.1)) c.query_all.result (c.query_all.ensures.ok clean.0);
+      shown = λ clean. settled_shown version_text [] old new (c.is_autocommit.ensures.settled (search rules) ((left clean.0).was_open clean.1)) c.query_all.result (c.query_all.ensures.ok clean.0);
     }
 
 pub returns-clause-versions : goal.returns-clause-versions

@@ -1,4 +1,4 @@
-use Rattle.std.proofs.Common.{◌≡◌, ◌∙◌, Some, pos, true, false, true≢false, IsTrue, codes, not, sym, ap}
+use Rattle.std.proofs.Common.{◌≡◌, ◌∙◌, Some, pos, true, false, true≢false, codes, sym, ap}
 use Rattle.sqlite.specs.Held.{state}
 use Rattle.bor_store_sql.specs.Texts.Tables.{first_schema, keep_schema}
 use Rattle.bor_store.specs.Opening.{has_all, has_first, is_used, is_versioned, version_in}
@@ -9,16 +9,14 @@ use Rattle.bor_store.proofs.migration.is_first.Goals as goal
 pub returns-then-not-is_versioned-clause-first : goal.returns-then-not-is_versioned-clause-first
 returns-then-not-is_versioned-clause-first g c clean r shows =
     let was = state g.S.Store c.args.conn.now in
-    let auto : IsTrue c.is_autocommit-settled.result = c.is_autocommit-settled.ensures.value ∙ ap not c.requires in
-    let schema : was.now.schema ≡ first_schema = ap (λ db. db.schema) (c.is_autocommit-settled.ensures.settled auto clean.1) ∙ shows.has.schema in
+    let schema : was.now.schema ≡ first_schema = ap (λ db. db.schema) (c.is_autocommit.ensures.settled c.if-not-is_autocommit.false clean.1) ∙ shows.has.schema in
     let yes : is_versioned was.now.schema ≡ true = ap is_versioned schema ∙ first_is_versioned in
     absurd (true≢false (sym yes ∙ ap is_versioned (sym c.schema.ensures.value) ∙ sym c.is_versioned.ensures ∙ c.if-not-is_versioned.true))
 
 pub returns-then-not-is_versioned-clause-second : goal.returns-then-not-is_versioned-clause-second
 returns-then-not-is_versioned-clause-second g c clean r shows =
     let was = state g.S.Store c.args.conn.now in
-    let auto : IsTrue c.is_autocommit-settled.result = c.is_autocommit-settled.ensures.value ∙ ap not c.requires in
-    let schema : was.now.schema ≡ keep_schema = ap (λ db. db.schema) (c.is_autocommit-settled.ensures.settled auto clean.1) ∙ shows.has.schema in
+    let schema : was.now.schema ≡ keep_schema = ap (λ db. db.schema) (c.is_autocommit.ensures.settled c.if-not-is_autocommit.false clean.1) ∙ shows.has.schema in
     let yes : is_versioned was.now.schema ≡ true = ap is_versioned schema ∙ keep_is_versioned in
     absurd (true≢false (sym yes ∙ ap is_versioned (sym c.schema.ensures.value) ∙ sym c.is_versioned.ensures ∙ c.if-not-is_versioned.true))
 
@@ -40,9 +38,8 @@ returns-clause-judged g c clean =
 pub returns-clause-first : goal.returns-clause-first
 returns-clause-first g c clean r shows =
     let was = state g.S.Store c.args.conn.now in
-    let auto : IsTrue c.is_autocommit-settled.result = c.is_autocommit-settled.ensures.value ∙ ap not c.requires in
     let began = c.in_ok-rows.ensures.asked.reads.began clean in
-    let settled = c.is_autocommit-settled.ensures.settled auto began.1 in
+    let settled = c.is_autocommit.ensures.settled c.if-not-is_autocommit.false began.1 in
     let found = first_found r was was c.in_ok-rows.rows.items shows (settled, c.in_ok-rows.ensures.versions clean.0) in
     let version : version_in c.as_slice.result.now ≡ Some (pos 1) = ap version_in (c.as_slice.ensures.value ∙ found) in
     let schema : was.now.schema ≡ first_schema = ap (λ db. db.schema) settled ∙ shows.has.schema in
@@ -53,9 +50,8 @@ returns-clause-first g c clean r shows =
 pub returns-clause-second : goal.returns-clause-second
 returns-clause-second g c clean r shows =
     let was = state g.S.Store c.args.conn.now in
-    let auto : IsTrue c.is_autocommit-settled.result = c.is_autocommit-settled.ensures.value ∙ ap not c.requires in
     let began = c.in_ok-rows.ensures.asked.reads.began clean in
-    let settled = c.is_autocommit-settled.ensures.settled auto began.1 in
+    let settled = c.is_autocommit.ensures.settled c.if-not-is_autocommit.false began.1 in
     let found = version_found r was was c.in_ok-rows.rows.items shows (settled, c.in_ok-rows.ensures.versions clean.0) in
     let version : version_in c.as_slice.result.now ≡ Some (pos 2) = ap version_in (c.as_slice.ensures.value ∙ found) in
     let schema : was.now.schema ≡ keep_schema = ap (λ db. db.schema) settled ∙ shows.has.schema in

@@ -3,7 +3,7 @@ use Rattle.std.proofs.lemmas.Result.{err_from_is_err_and}
 use Rattle.sqlite.specs.Held.{state}
 use Rattle.bor_store.proofs.Either.{still_first}
 use Rattle.bor_store.proofs.Legals.{moved_to_itself}
-use Rattle.bor_store.proofs.Moving.{kept_through, move_made, move_refused, move_stayed, never_taken}
+use Rattle.bor_store.proofs.Moving.{move_made, move_refused, move_stayed, never_taken}
 use Rattle.bor_store.proofs.Stopping.{after_read, only_read}
 use Rattle.bor_store.proofs.migration.migrate.Goals as goal
 
@@ -22,25 +22,21 @@ returns-then-not-first-clause-migrated g c clean r shows = absurd (true≢false 
 pub returns-then-not-first-clause-legal : goal.returns-then-not-first-clause-legal
 returns-then-not-first-clause-legal g c clean r shows legal = absurd (true≢false (sym (c.in_ok-first.ensures.first clean r shows) ∙ c.if-not-first.true))
 
-pub returns-clause-kept : goal.returns-clause-kept
-returns-clause-kept g c clean =
-    kept_through (state g.S.Store c.args.conn.now) (state g.S.Store c.is_first.new.conn) (state g.S.Store c.move_first.new.conn) c.move_first.result (c.move_first.ensures.kept clean) (c.in_ok-first.ensures.reads.kept (c.move_first.ensures.began clean))
-
 pub returns-clause-taken : goal.returns-clause-taken
 returns-clause-taken g c taken = never_taken _ c.move_first.result c.move_first.ensures.told taken
 
 pub returns-clause-judged : goal.returns-clause-judged
 returns-clause-judged g c clean =
-    let began = c.move_first.ensures.began clean in
+    let began = c.move_first.ensures.commits.began clean in
     move_made (state g.S.Store c.args.conn.now) (state g.S.Store c.move_first.new.conn) c.in_ok-first.first c.move_first.result c.if-not-first.false (c.in_ok-first.ensures.judged began.0) c.move_first.ensures.told
 
 pub returns-clause-unchanged : goal.returns-clause-unchanged
 returns-clause-unchanged g c clean r shows =
-    absurd (true≢false (sym c.if-not-first.false ∙ c.in_ok-first.ensures.second (c.move_first.ensures.began clean) r shows))
+    absurd (true≢false (sym c.if-not-first.false ∙ c.in_ok-first.ensures.second (c.move_first.ensures.commits.began clean) r shows))
 
 pub returns-clause-migrated : goal.returns-clause-migrated
 returns-clause-migrated g c clean r shows =
-    let began = c.move_first.ensures.began clean in
+    let began = c.move_first.ensures.commits.began clean in
     let old = state g.S.Store c.args.conn.now in
     let mid = state g.S.Store c.is_first.new.conn in
     c.move_first.ensures.migrated clean r (still_first r old mid (c.in_ok-first.ensures.reads.kept began) shows)
@@ -59,6 +55,6 @@ returns-clause-stops g c =
     let old = state g.S.Store c.args.conn.now in
     let mid = state g.S.Store c.is_first.new.conn in
     let reads = c.in_ok-first.ensures.reads in
-    after_read _ _ old mid (state g.S.Store c.move_first.new.conn) reads c.move_first.ensures.clean
+    after_read _ _ old mid (state g.S.Store c.move_first.new.conn) reads c.move_first.ensures.commits.clean
     (λ was trees made. (λ r shows legal. made r (still_first r old mid (reads.kept was) shows) legal, λ r shows. absurd (true≢false (sym c.if-not-first.false ∙ c.in_ok-first.ensures.second was r shows))))
     c.move_first.ensures.stops

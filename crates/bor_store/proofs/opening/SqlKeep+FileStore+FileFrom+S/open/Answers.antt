@@ -1,21 +1,33 @@
+use Rattle.std.proofs.Common.{◌∙◌}
 use Rattle.sqlite.specs.Files.{file_state}
-use Rattle.sqlite.specs.Start.{FindsIn}
-use Rattle.sqlite.specs.State.{HasCleanDisk}
 use Rattle.sqlite_wal.specs.Files.{image_at}
-use Rattle.bor_register.specs.Register.{Register}
-use Rattle.bor_store_sql.specs.Shown.{IsClean, ShowsIn}
-use Rattle.bor_store.specs.Opening.{HoldsRegister}
-use Rattle.bor_store.proofs.Holding.{finds_still, ok_both, ok_three}
+use Rattle.bor_store_sql.specs.Shown.{IsClean}
+use Rattle.bor_store.proofs.Holding.{finds_still}
+use Rattle.bor_store.proofs.Judging.{judged_told}
 use Rattle.bor_store.proofs.opening.SqlKeep+FileStore+FileFrom+S.open.Goals as goal
 
-pub returns-clause-found : goal.returns-clause-found
-returns-clause-found g c =
-    ok_both {C = λ k. IsClean (file_state k.conn) → (r : Register) → HoldsRegister (image_at g.S.Start) r → ShowsIn r (file_state k.conn)} c.adopt.result c.adopt.ensures.began c.adopt.ensures.shows
-    (λ k began shows clean r held. (shows clean r).0 ((c.in_ok-conn.ensures.connected (began clean).0).shows r held))
+pub returns-in-Ok-adopt-clause-found : goal.returns-in-Ok-adopt-clause-found
+returns-in-Ok-adopt-clause-found g c clean r held =
+    let adopted = c.in-Ok-adopt.ensures in
+    (adopted.shows clean r).0 ((c.in-Ok.ensures.connected (adopted.reads.began clean).0).shows r held)
 
-pub returns-clause-held : goal.returns-clause-held
-returns-clause-held g c =
-    ok_three {D = λ k. HasCleanDisk (file_state k.conn) → FindsIn (image_at g.S.Start) (file_state k.conn)} c.adopt.result c.adopt.ensures.up c.adopt.ensures.began c.adopt.ensures.kept
-    (λ k up began kept clean.
-    let is_clean : IsClean (file_state k.conn) = (clean, up clean) in
-    finds_still (image_at g.S.Start) (file_state c.in_ok-conn.conn) (file_state k.conn) (kept is_clean) (c.in_ok-conn.ensures.connected (began is_clean).0).found)
+pub returns-in-Ok-adopt-clause-held : goal.returns-in-Ok-adopt-clause-held
+returns-in-Ok-adopt-clause-held g c disk =
+    let adopted = c.in-Ok-adopt.ensures in
+    let clean : IsClean (file_state c.in-Ok-adopt.register.conn) = (disk, adopted.up disk) in
+    finds_still (image_at g.S.Start) (file_state c.in-Ok.conn) (file_state c.in-Ok-adopt.register.conn) (adopted.reads.kept clean) (c.in-Ok.ensures.connected (adopted.reads.began clean).0).found
+
+pub returns-in-Err-adopt-clause-refused : goal.returns-in-Err-adopt-clause-refused
+returns-in-Err-adopt-clause-refused g c =
+    let refused = c.in-Err-adopt.ensures in
+    record {
+      opened = c.in-Ok.conn;
+      settled = refused.reads.mode ∙ c.in-Ok.ensures.mode;
+      connected = c.in-Ok.ensures.connected;
+      reads = refused.reads;
+      judged = λ clean. judged_told _ _ _ _ (refused.judged clean);
+      shown = λ clean r held.
+          let opened = c.in-Ok.ensures.connected (refused.reads.clean clean) in
+          refused.shown clean opened.opens.is_open r (opened.shows r held);
+      first = λ clean r shows. refused.first clean (c.in-Ok.ensures.connected (refused.reads.clean clean)).opens.is_open r shows;
+    }

@@ -1,4 +1,4 @@
-use Rattle.std.specs.Prelude.{IfErr, IfOk}
+use Rattle.std.specs.Prelude.{IfErr, IfOk, OnOk}
 use Rattle.std.proofs.Common.{ap, sym, subst, length}
 use Rattle.sqlite.specs.Held.{state}
 use Rattle.sqlite.specs.State.{HasCleanDisk}
@@ -19,12 +19,12 @@ returns-clause-changes g c =
     let same = c.connection.ensures.value in
     let changed : Register → Register = λ r. added c.args.agent.now c.args.key.now c.args.due c.args.bytes.now c.args.statements.now r in
     let leaves = keep_leaves_where (λ k. state g.S.Store k.conn) (λ k. k.faults) c.args.self.now c.told.new.self (state g.S.Store c.connection.result.now) (state g.S.Store c.add_next_filing-made.new.conn)
-    (ap (state g.S.Store) same) (ap (state g.S.Store) told.conn) made.clean made.began _ made.stops (MayFile c.args.agent.now c.args.key.now c.args.statements.now) changed (λ r shows fits trees stands. stands r shows fits.enrolled fits.room) in
+    (ap (state g.S.Store) same) (ap (state g.S.Store) told.conn) made.commits.clean made.commits.began _ made.stops (MayFile c.args.agent.now c.args.key.now c.args.statements.now) changed (λ r shows fits trees stands. stands r shows fits.enrolled fits.room) in
     record {
       leaves = leaves;
       lasts = lasts_told (λ k. state g.S.Store k.conn) (λ k. k.faults) c.args.self.now c.told.new.self
-          (λ clean. subst (λ k. HasCleanDisk (state g.S.Store k)) same (made.clean (subst (λ k. HasCleanDisk (state g.S.Store k)) told.conn clean))) c.add_next_filing-made.result c.told.result told.told
-          (stays_up c.add_next_filing-made.result (state g.S.Store c.args.self.now.conn) (state g.S.Store c.told.new.self.conn) (subst (λ k. IfOk c.add_next_filing-made.result (λ x. IsUp (state g.S.Store k))) (sym told.conn) made.up));
+          (λ clean. subst (λ k. HasCleanDisk (state g.S.Store k)) same (made.commits.clean (subst (λ k. HasCleanDisk (state g.S.Store k)) told.conn clean))) c.add_next_filing-made.result c.told.result told.told
+          (stays_up c.add_next_filing-made.result (state g.S.Store c.args.self.now.conn) (state g.S.Store c.told.new.self.conn) (subst (λ k. OnOk c.add_next_filing-made.result (IsUp (state g.S.Store k))) (sym told.conn) made.commits.up));
       counts = counted_told c.add_next_filing-made.result c.told.result c.args.self.now.faults c.told.new.self.faults told.told told.counts;
       told = λ r shows clean fits.
           undamaged_said c.add_next_filing-made.result c.told.result told.told
@@ -33,7 +33,7 @@ returns-clause-changes g c =
           (let ended = subst (λ k. IsClean (state g.S.Store k)) told.conn clean in
           let shown = subst (λ k. ShowsIn r (state g.S.Store k)) (sym same) shows in
           subst (λ k. IfErr c.told.result (λ e. ShowsIn r (state g.S.Store k))) (sym told.conn)
-          (unfiled_shown c.add_next_filing-made.result c.told.result r (state g.S.Store c.connection.result.now) (state g.S.Store c.add_next_filing-made.new.conn) told.told (made.kept ended) shown));
+          (unfiled_shown c.add_next_filing-made.result c.told.result r (state g.S.Store c.connection.result.now) (state g.S.Store c.add_next_filing-made.new.conn) told.told (made.commits.kept ended) shown));
       made = λ r shows clean fits.
           (let ended = subst (λ k. IsClean (state g.S.Store k)) told.conn clean in
           let shown = subst (λ k. ShowsIn r (state g.S.Store k)) (sym same) shows in
