@@ -21,7 +21,7 @@ use Rattle.bor_desk.specs.declared.reply.DeskReply.TheVariants as tell
 use Rattle.bor_wire.specs.Rendering.Values.{maybe_data, key_data, person_evidence_data, link_evidence_data, record_evidence_data, evidence_data, entities_data, identifier_data, interest_data, share_data, details_data}
 use Rattle.bor_wire.specs.Rendering.Bodies.{evidence_text, entities_text}
 use Rattle.bor_wire.specs.Rendering.Replies.{answered}
-use Rattle.bor_wire.specs.ReportBytes.{IsShareCounted, AreSharesCounted, AreRecordsCounted, IsCounted, IsSameEvidence, BytesGiveEvidence, IsSameRecord, AreSameEntities, BytesGiveEntities}
+use Rattle.bor_wire.specs.ReportBytes.{IsShareCounted, AreSharesCounted, AreRecordsCounted, IsInRange, IsSameEvidence, BytesGiveEvidence, IsSameRecord, AreSameEntities, BytesGiveEntities}
 use Rattle.bor_wire.proofs.OnRendering.LengthTold.{same_body}
 use Rattle.bor_wire.proofs.OnRendering.ReadBack.{same_text}
 use Rattle.bor_wire.proofs.OnRendering.ItemsBack.{each_once, items_in, items_numbers, items_once, of_each}
@@ -132,11 +132,11 @@ records_numbers xs few = items_numbers record_evidence_data (λ x. AreSharesCoun
 
 -- ---- the evidence
 
-evidence_numbers : (entity : Node) (day : ℤ) (told : EntityEvidence) → IsCounted told → HasNumbers (outline (evidence_data entity day told))
+evidence_numbers : (entity : Node) (day : ℤ) (told : EntityEvidence) → IsInRange told → HasNumbers (outline (evidence_data entity day told))
 evidence_numbers entity day told few =
     (tt, (tt, (tt, (items_numbers link_evidence_data (λ l. ⊤) (λ l p. link_numbers l) told.links (of_each told.links), (items_numbers person_evidence_data (λ p. p.links < 2 ^ 64) person_numbers told.persons few.persons, (tt, (records_numbers told.records few.shares, tt)))))))
 
-evidence_once : (entity other : Node) (day date : ℤ) (told said : EntityEvidence) → IsCounted told → IsCounted said → outline (evidence_data entity day told) ≡ outline (evidence_data other date said) → IsSameEvidence entity other day date told said
+evidence_once : (entity other : Node) (day date : ℤ) (told said : EntityEvidence) → IsInRange told → IsInRange said → outline (evidence_data entity day told) ≡ outline (evidence_data other date said) → IsSameEvidence entity other day date told said
 evidence_once entity other day date told said few small h = record {
   entity_is = node_once entity other (ap (λ j. text (value j)) h) (ap (λ j. text (third j)) h) (ap (λ j. text (sixth j)) h);
   day_is = ap (λ j. text (second j)) h;

@@ -11,7 +11,7 @@ use Rattle.bor_desk.specs.declared.reply.DeskReply.TheVariants as tell
 use Rattle.bor_wire.specs.Rendering.Values.{maybe_data, person_data, chains_data}
 use Rattle.bor_wire.specs.Rendering.Bodies.{chains_text}
 use Rattle.bor_wire.specs.Rendering.Replies.{answered}
-use Rattle.bor_wire.specs.ReportBytes.{AreCounted, IsSameReport, BytesGivePersons}
+use Rattle.bor_wire.specs.ReportBytes.{AreInRange, IsSameReport, BytesGivePersons}
 use Rattle.bor_wire.proofs.OnRendering.LengthTold.{same_body}
 use Rattle.bor_wire.proofs.OnRendering.ReadBack.{same_text}
 use Rattle.bor_wire.proofs.OnRendering.ItemsBack.{items_numbers, items_once}
@@ -43,10 +43,10 @@ person_numbers p few = (tt, (tt, (IsNumber-decimal p.links few, (name_numbers p.
 
 -- ---- the report
 
-report_numbers : (entity : Node) (day : ℤ) (ps : List PersonLine) → AreCounted ps → HasNumbers (outline (chains_data entity day ps))
+report_numbers : (entity : Node) (day : ℤ) (ps : List PersonLine) → AreInRange ps → HasNumbers (outline (chains_data entity day ps))
 report_numbers entity day ps few = (tt, (tt, (tt, (items_numbers person_data (λ p. p.links < 2 ^ 64) person_numbers ps few, (tt, tt)))))
 
-report_once : (entity other : Node) (day date : ℤ) (ps qs : List PersonLine) → AreCounted ps → AreCounted qs → outline (chains_data entity day ps) ≡ outline (chains_data other date qs) → IsSameReport entity other day date ps qs
+report_once : (entity other : Node) (day date : ℤ) (ps qs : List PersonLine) → AreInRange ps → AreInRange qs → outline (chains_data entity day ps) ≡ outline (chains_data other date qs) → IsSameReport entity other day date ps qs
 report_once entity other day date ps qs few small h =
     record { entity_is = node_once entity other (cc) (cc) (cc); day_is = cc; persons_are = items_once person_data (λ p. p.links < 2 ^ 64) person_once ps qs few small (cc) }
 

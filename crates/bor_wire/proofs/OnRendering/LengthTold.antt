@@ -10,7 +10,7 @@ use Rattle.bor_http.specs.declared.incoming.fault.Path.{Path}
 use Rattle.bor_http.specs.declared.incoming.fault.Path.TheVariants as paths
 use Rattle.bor_http.specs.Routes.Routes.{allow}
 use Rattle.bor_wire.specs.Rendering.Heads.{phrase, status_line, field_line, own_line, head_bytes}
-use Rattle.bor_wire.specs.Rendering.Replies.{Said, status_of, path_of, reply_body, bytes_of}
+use Rattle.bor_wire.specs.Rendering.Replies.{Said, status_of, path_replied, reply_body, bytes_of}
 use Rattle.bor_wire.specs.Rendering.Laws.{behind, behind_head, before, LengthIsTold}
 use Rattle.bor_wire.proofs.OnRendering.Phrases.{one_line, phrase_plain}
 
@@ -141,7 +141,7 @@ told_fields status path len body = refl
 body_is : (said : Said) → behind (codes "\r\n\r\n") (bytes_of said) ≡ reply_body said
 body_is said =
     let status = status_of said in
-    let path = path_of said in
+    let path = path_replied said in
     let body = reply_body said in
     ap (behind (codes "\r\n\r\n")) (head_joined status path (length body) body)
     ∙ pass (codes "\n\r\n") (status_text status) (fields status path (length body) body) (status_plain status)
@@ -152,7 +152,7 @@ body_is said =
 told_is : (said : Said) → before (codes "\r\n") (behind (codes "\r\nContent-Length: ") (bytes_of said)) ≡ decimal (length (reply_body said))
 told_is said =
     let status = status_of said in
-    let path = path_of said in
+    let path = path_replied said in
     let body = reply_body said in
     ap (λ bytes. before (codes "\r\n") (behind (codes "\r\nContent-Length: ") bytes)) (head_joined status path (length body) body)
     ∙ ap (before (codes "\r\n")) (pass (codes "\nContent-Length: ") (status_text status) (fields status path (length body) body) (status_plain status))
