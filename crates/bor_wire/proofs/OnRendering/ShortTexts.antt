@@ -149,7 +149,7 @@ wire_refusal_short BodyTooLarge = omega arith
 wire_refusal_short NoPath = omega arith
 wire_refusal_short (WrongMethod path) = omega arith
 wire_refusal_short NoToken = omega arith
-wire_refusal_short (BadQuery name) = omega arith
+wire_refusal_short (BadQuery _) = omega arith
 
 pub allow_short : (path : Path) → length (allow path) ≤ 11
 unfolding allow
