@@ -13,18 +13,18 @@ use Rattle.bor_chains.specs.declared.crossed.Crossing.{Crossing}
 use Rattle.bor_chains.specs.declared.marks.Mark.{Mark}
 use Rattle.bor_chains.specs.declared.marks.Mark.TheVariants.{Target, Middle, Holder}
 use Rattle.bor_chains.specs.declared.marks.Marked.{Marked}
-use Rattle.bor_chains.specs.Marks.{counts_at, is_holder, IsCounted}
-use Rattle.bor_chains.specs.Crossings.{counted_at, IsCountedOf, AreCounted, IsCrossingInto, AreCrossings}
+use Rattle.bor_chains.specs.Marks.{counts_at, is_holder, CountsAt}
+use Rattle.bor_chains.specs.Crossings.{counted_at, IsCountedOf, AreCountedSoFar, IsCrossingInto, AreCrossings}
 
 crossing_is : (c d : Crossing) → c.link ≡ d.link → c.below ≡ d.below → c ≡ d
 crossing_is c d e f = ap (λ (l : Link). let x : Crossing = record { link = l; below = c.below } in x) e ∙ ap (λ (n : ℕ). let x : Crossing = record { link = d.link; below = n } in x) f
 
 -- ---- the links of one mark
 
-pub counted_none : (links : List Link) (mark : Mark) (below : ℕ) (a : List Crossing) → AreCounted links mark below links a a
+pub counted_none : (links : List Link) (mark : Mark) (below : ℕ) (a : List Crossing) → AreCountedSoFar links mark below links a a
 counted_none links mark below a = record { rest = []; begins = sym (append-nil a); only = λ c h. absurd (none c h); within = λ l h. h; every = λ c h. inl h.listed }
 
-pub counted_skip : (links : List Link) (mark : Mark) (below : ℕ) (left fewer : List Link) (l : Link) (a b : List Crossing) → left ≡ fewer ++ l ∷ [] → counts_at mark l ≡ false → AreCounted links mark below left a b → AreCounted links mark below fewer a b
+pub counted_skip : (links : List Link) (mark : Mark) (below : ℕ) (left fewer : List Link) (l : Link) (a b : List Crossing) → left ≡ fewer ++ l ∷ [] → counts_at mark l ≡ false → AreCountedSoFar links mark below left a b → AreCountedSoFar links mark below fewer a b
 counted_skip links mark below left fewer l a b e miss g = record {
   rest = g.rest;
   begins = g.begins;
@@ -39,8 +39,8 @@ counted_skip links mark below left fewer l a b e miss g = record {
   ];
 }
 
-pub counted_push : (links : List Link) (mark : Mark) (below : ℕ) (left fewer : List Link) (l : Link) (a b : List Crossing) → left ≡ fewer ++ l ∷ [] → counts_at mark l ≡ true → AreCounted links mark below left a b
-    → AreCounted links mark below fewer a (b ++ record { link = l; below = below } ∷ [])
+pub counted_push : (links : List Link) (mark : Mark) (below : ℕ) (left fewer : List Link) (l : Link) (a b : List Crossing) → left ≡ fewer ++ l ∷ [] → counts_at mark l ≡ true → AreCountedSoFar links mark below left a b
+    → AreCountedSoFar links mark below fewer a (b ++ record { link = l; below = below } ∷ [])
 counted_push links mark below left fewer l a b e hits g = record {
   rest = g.rest ++ one ∷ [];
   begins = ap (λ (cs : List Crossing). cs ++ one ∷ []) g.begins ∙ append_assoc a g.rest (one ∷ []);
@@ -61,14 +61,14 @@ counted_push links mark below left fewer l a b e hits g = record {
     one : Crossing
     one = record { link = l; below = below }
 
-pub counted_more : (links : List Link) (mark : Mark) (below : ℕ) (left fewer : List Link) (l : Link) (a b c : List Crossing) → left ≡ fewer ++ l ∷ [] → c ≡ b ++ counted_at mark below l → AreCounted links mark below left a b → AreCounted links mark below fewer a c
-counted_more links mark below left fewer l a b c e more g = subst (λ (xs : List Crossing). AreCounted links mark below fewer a xs) (sym more) (at (counts_at mark l) refl)
+pub counted_more : (links : List Link) (mark : Mark) (below : ℕ) (left fewer : List Link) (l : Link) (a b c : List Crossing) → left ≡ fewer ++ l ∷ [] → c ≡ b ++ counted_at mark below l → AreCountedSoFar links mark below left a b → AreCountedSoFar links mark below fewer a c
+counted_more links mark below left fewer l a b c e more g = subst (λ (xs : List Crossing). AreCountedSoFar links mark below fewer a xs) (sym more) (at (counts_at mark l) refl)
   where
-    at : (t : Bool) → counts_at mark l ≡ t → AreCounted links mark below fewer a (b ++ cond t (record { link = l; below = below } ∷ []) [])
+    at : (t : Bool) → counts_at mark l ≡ t → AreCountedSoFar links mark below fewer a (b ++ cond t (record { link = l; below = below } ∷ []) [])
     at true hits = counted_push links mark below left fewer l a b e hits g
-    at false miss = subst (λ (xs : List Crossing). AreCounted links mark below fewer a xs) (sym (append-nil b)) (counted_skip links mark below left fewer l a b e miss g)
+    at false miss = subst (λ (xs : List Crossing). AreCountedSoFar links mark below fewer a xs) (sym (append-nil b)) (counted_skip links mark below left fewer l a b e miss g)
 
-pub counted_all : (links : List Link) (mark : Mark) (below : ℕ) (left : List Link) (a b : List Crossing) → left ≡ [] → AreCounted links mark below left a b → Grown (IsCountedOf links mark below) a b
+pub counted_all : (links : List Link) (mark : Mark) (below : ℕ) (left : List Link) (a b : List Crossing) → left ≡ [] → AreCountedSoFar links mark below left a b → Grown (IsCountedOf links mark below) a b
 counted_all links mark below left a b e g = record {
   rest = g.rest;
   begins = g.begins;
@@ -114,7 +114,7 @@ crossings_more s marks start i m a b le lt at was g c = (
   ]),
   (λ x. elim (at_most c.below x.before) [
     | inl before ↦ kept g c ((was c).1 (record { mark = x.mark; is = x.is; above = x.above; before = before; is_counted = x.is_counted }))
-    | inr now ↦ g.every c (record { is_counted = subst (λ (n : Marked). IsCounted s n c.link) (same_Some x.mark m (sym x.is ∙ ap (λ (n : ℕ). slice_get marks n) now ∙ here)) x.is_counted; place = now })
+    | inr now ↦ g.every c (record { is_counted = subst (λ (n : Marked). CountsAt s n c.link) (same_Some x.mark m (sym x.is ∙ ap (λ (n : ℕ). slice_get marks n) now ∙ here)) x.is_counted; place = now })
   ]),
 )
   where

@@ -5,7 +5,7 @@ ghost use Rattle.std.specs.List.{filter_map, IsDistinct};
 ghost use Rattle.bor_records.specs.Links.Nodes.{same_node};
 ghost use Rattle.bor_store_sql.specs.Rows.Placed.{placed};
 ghost use Rattle.bor_store_sql.specs.Selected.{in_record, placed_of, with_subject};
-ghost use Rattle.bor_store_reads.specs.Answering.{Reads};
+ghost use Rattle.bor_store_reads.specs.Answering.{ReadsIn};
 ghost use Rattle.bor_store_keys.specs.Recorded.{CoverRecords, record_at};
 ghost use Rattle.bor_store_keys.specs.Signed.{record_standing, with_identifier, with_sign};
 
@@ -41,7 +41,7 @@ pub(crate) fn records_into<S: Alter + Drop>(
     alloc: Global,
     node: &Node,
 ) -> Result<Vec<Node>, ReadError>
-    ensures covers { Reads S.Store lookup.old lookup.new result (λ r records.
+    ensures covers { ReadsIn S.Store lookup.old lookup.new result (λ r records.
         CoverRecords
         (with_subject node.now.declaration node.now.rec
         (placed_of node.now.agent r)) records.items) }
@@ -58,7 +58,7 @@ fn record_read<S: Alter + Drop>(
     alloc: Global,
     at: &At,
 ) -> Result<Option<Node>, ReadError>
-    ensures { Reads S.Store lookup.old lookup.new result (λ r one.
+    ensures { ReadsIn S.Store lookup.old lookup.new result (λ r one.
         one ≡ record_standing r.members at.now) }
 {
     match lookup.standing(alloc, at)? {
@@ -73,7 +73,7 @@ fn record_standing<S: Alter + Drop>(
     alloc: Global,
     at: &At,
 ) -> Result<Option<Node>, ReadError>
-    ensures { Reads S.Store lookup.old lookup.new result (λ r one.
+    ensures { ReadsIn S.Store lookup.old lookup.new result (λ r one.
         one ≡ record_standing r.members at.now) }
 {
     match lookup.placed(alloc, at)? {
@@ -88,7 +88,7 @@ fn records_standing<S: Alter + Drop>(
     alloc: Global,
     rows: &[IdentifierRow],
 ) -> Result<Vec<Node>, ReadError>
-    ensures { Reads S.Store lookup.old lookup.new result (λ r records.
+    ensures { ReadsIn S.Store lookup.old lookup.new result (λ r records.
         records.items ≡ filter_map (λ row. record_standing r.members row.at) rows.now) }
 {
     let mut records = Vec::new(alloc);
@@ -106,7 +106,7 @@ fn records_identified<S: Alter + Drop>(
     scheme: &str,
     id: &str,
 ) -> Result<Vec<Node>, ReadError>
-    ensures { Reads S.Store lookup.old lookup.new result (λ r records.
+    ensures { ReadsIn S.Store lookup.old lookup.new result (λ r records.
         CoverRecords (with_identifier scheme.now id.now (placed r.members)) records.items) }
 {
     let rows = lookup.identified(alloc, scheme, id)?;
@@ -121,7 +121,7 @@ fn records_named<S: Alter + Drop>(
     agent: &str,
     rec: &str,
 ) -> Result<Vec<Node>, ReadError>
-    ensures { Reads S.Store lookup.old lookup.new result (λ r records.
+    ensures { ReadsIn S.Store lookup.old lookup.new result (λ r records.
         CoverRecords (in_record rec.now (placed_of agent.now r)) records.items) }
 {
     let rows = lookup.recorded(alloc, agent, rec)?;
@@ -135,7 +135,7 @@ pub(crate) fn records_with<S: Alter + Drop>(
     alloc: Global,
     sign: &Sign,
 ) -> Result<Vec<Node>, ReadError>
-    ensures { Reads S.Store lookup.old lookup.new result (λ r records.
+    ensures { ReadsIn S.Store lookup.old lookup.new result (λ r records.
         CoverRecords (with_sign sign.now r) records.items) }
 {
     if sign.of_record {
