@@ -13,9 +13,8 @@ pub fn tables_show_one_register()
 {}
 
 /// Tables of version 1 tell all of a register but the days of its interests: whichever two registers
-/// they show, these are one where no interest has a day. So nothing else of a register can be lost
-/// or changed by moving them. And they show each register of values of their forms that differs in
-/// these days alone.
+/// they show, these are one where no interest has a day. And they have the rows of each register
+/// that differs in these days alone.
 pub fn first_tables_tell_all_but_days()
     ensures { FirstTablesTellAllButDays }
 {}
