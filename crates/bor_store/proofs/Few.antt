@@ -20,7 +20,7 @@ use Rattle.bods_read.specs.declared.fault.FileFault.{FileFault}
 use Rattle.bods_read.specs.declared.statement.RecordType.{RecordType}
 use Rattle.bods_read.specs.declared.statement.RecordType.TheVariants as types
 use Rattle.bods_read.specs.declared.statement.Statement.{Statement}
-use Rattle.bor_store_sql.specs.Rows.Placed.{identifiers_of as identifiers_in, interests_of as interests_in}
+use Rattle.bor_store_sql.specs.Rows.Placed.{identifiers_listed as identifiers_in, interests_listed as interests_in}
 
 -- ---- a statement
 

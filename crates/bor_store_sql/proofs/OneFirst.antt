@@ -13,7 +13,7 @@ use Rattle.bor_register.specs.declared.filing.AcceptedFiling.{AcceptedFiling}
 use Rattle.bor_register.specs.declared.member.Member.{Member}
 use Rattle.bor_store_sql.specs.Laws.{FirstTablesTellAllButDays}
 use Rattle.bor_store_sql.specs.Rows.Encoding.{agent_columns, contents, filing_columns, filing_rows, first_version, identifier_columns, interest_columns, statement_columns}
-use Rattle.bor_store_sql.specs.Rows.Placed.{bare, identifier_rows, identifiers_from, identifiers_of, interest_rows, interests_from, interests_of, part_of, period_rows, placed, placed_by, placed_from, register_row}
+use Rattle.bor_store_sql.specs.Rows.Placed.{bare, identifier_rows, identifiers_from, identifiers_listed, interest_rows, interests_from, interests_listed, part_of, period_rows, placed, placed_by, placed_from, register_row}
 use Rattle.bor_store_sql.specs.Rows.Stored.{AllNumbered, AreNumbered}
 use Rattle.bor_store_sql.specs.Shown.{HasFirst, HasLists, first_contents}
 use Rattle.bor_store_sql.specs.Undated.{undated, undated_details, undated_filing, undated_member, undated_statement, without_days}
@@ -69,12 +69,12 @@ bare_undated p = ap (λ part. record (bare p) { part = part }) (go p.statement.d
     go (details.Person kind name) = refl
     go (details.Relationship subject party interests) = refl
 
-identified_undated : (d : Details) → identifiers_of (undated_details d) ≡ identifiers_of d
+identified_undated : (d : Details) → identifiers_listed (undated_details d) ≡ identifiers_listed d
 identified_undated (details.Entity kind name identifiers) = refl
 identified_undated (details.Person kind name) = refl
 identified_undated (details.Relationship subject party interests) = refl
 
-held_undated : (d : Details) → interests_of (undated_details d) ≡ map undated (interests_of d)
+held_undated : (d : Details) → interests_listed (undated_details d) ≡ map undated (interests_listed d)
 held_undated (details.Entity kind name identifiers) = refl
 held_undated (details.Person kind name) = refl
 held_undated (details.Relationship subject party interests) = refl
@@ -104,7 +104,7 @@ held_from at item (i ∷ is) = ap (λ l. interest_columns (record { at = at; ite
 interests_undated : (ps : List Placed) → flat_map (λ p. map interest_columns (interest_rows p)) (map undated_placed ps) ≡ flat_map (λ p. map interest_columns (interest_rows p)) ps
 interests_undated [] = refl
 interests_undated (p ∷ ps) =
-    let held = interests_of p.statement.details in
+    let held = interests_listed p.statement.details in
     ap₂ (λ x y. x ++ y) (ap (λ is. map interest_columns (interests_from p.at 1 is)) (held_undated p.statement.details) ∙ held_from p.at 1 held) (interests_undated ps)
 
 identifiers_undated : (ps : List Placed) → flat_map (λ p. map identifier_columns (identifier_rows p)) (map undated_placed ps) ≡ flat_map (λ p. map identifier_columns (identifier_rows p)) ps
@@ -137,7 +137,7 @@ no_days_from at item (i ∷ is) = no_days_from at (item + 1) is
 no_days_of : (ps : List Placed) → flat_map period_rows (flat_map interest_rows (map undated_placed ps)) ≡ []
 no_days_of [] = refl
 no_days_of (p ∷ ps) =
-    let own = ap (λ is. flat_map period_rows (interests_from p.at 1 is)) (held_undated p.statement.details) ∙ no_days_from p.at 1 (interests_of p.statement.details) in
+    let own = ap (λ is. flat_map period_rows (interests_from p.at 1 is)) (held_undated p.statement.details) ∙ no_days_from p.at 1 (interests_listed p.statement.details) in
     flat_map-append period_rows (interest_rows (undated_placed p)) (flat_map interest_rows (map undated_placed ps)) ∙ ap₂ (λ x y. x ++ y) own (no_days_of ps)
 
 no_days : (r : Register) → flat_map period_rows (all_interests (without_days r).members) ≡ []

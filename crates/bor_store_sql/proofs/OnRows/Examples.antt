@@ -16,7 +16,7 @@ use Rattle.bor_register.specs.declared.filing.AcceptedFiling.{AcceptedFiling}
 use Rattle.bor_store_sql.specs.Rows.Encoding.{contents}
 use Rattle.bor_store_sql.specs.Shown.{first_contents}
 use Rattle.bor_store_sql.specs.Undated.{undated, undated_filing, undated_statement, without_days}
-use Rattle.bor_store_sql.specs.Rows.Words.{entity_kind_of, person_kind_of, interest_kind_of, directness_of}
+use Rattle.bor_store_sql.specs.Rows.Words.{entity_kind_of, person_kind_of, interest_kind_of, directness_named}
 
 -- ---- the register
 
@@ -167,8 +167,8 @@ no_interest : interest_kind_of (codes "boardMember") ≡ None
 unfolding interest_kind_of interest_word
 no_interest = refl
 
-no_directness : directness_of (codes "") ≡ None
-unfolding directness_of directness_word
+no_directness : directness_named (codes "") ≡ None
+unfolding directness_named directness_word
 no_directness = refl
 
 no_type : type_worded (codes "ship") ≡ None
