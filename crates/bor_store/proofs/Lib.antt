@@ -16,3 +16,7 @@ pub mod Moving
 pub mod SettledFits
 pub mod Holding
 pub mod Stopping
+pub mod Few
+pub mod Stored
+pub mod FirstLegal
+pub mod Examples

@@ -4,3 +4,4 @@ pub mod Stopping
 pub mod Opening
 pub mod Migrating
 pub mod Tables
+pub mod Laws

@@ -46,5 +46,6 @@ pub mod Told
 pub mod Alone
 pub mod Fits
 pub mod OneRegister
+pub mod OneFirst
 pub mod OnTexts
 pub mod OnRows

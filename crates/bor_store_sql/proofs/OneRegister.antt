@@ -1,5 +1,5 @@
 -- The rows of a database are those of one register at most.
-use Rattle.std.proofs.Common.{◌≡◌, ℕ, zero, suc, pos, ◌+◌, List, [], ◌∷◌, ◌++◌, map, filter, refl, sym, ap, ap₂, subst, ◌∙◌, arith, IsPermutation, IsSorted}
+use Rattle.std.proofs.Common.{◌≡◌, inr, ℕ, ℤ, zero, suc, pos, ◌+◌, List, [], ◌∷◌, ◌++◌, map, filter, refl, sym, ap, ap₂, subst, ◌∙◌, arith, IsPermutation, IsSorted}
 use Rattle.std.specs.List.{flat_map}
 use Rattle.std.specs.Ordering.{is_lt, ordering_reverse}
 use Rattle.std.proofs.lemmas.List.{map-append}
@@ -14,16 +14,17 @@ use Rattle.sqlite_keyed.proofs.SortLemmas.{sorted_unique}
 use Rattle.sqlite_sql.proofs.QueryLemmas.{key_cmp_total}
 use Rattle.sqlite_sql.specs.Query.{key_cmp}
 use Rattle.sqlite_value.specs.declared.keys.Key.{Key}
-use Rattle.bor_register.specs.Register.{Register}
+use Rattle.bor_register.specs.Register.{IsOrdered, Register}
 use Rattle.bor_register.specs.declared.filing.AcceptedFiling.{AcceptedFiling}
 use Rattle.bor_register.specs.declared.member.Member.{Member}
 use Rattle.bor_store_sql.specs.Kept.{AreRows, Keeps}
-use Rattle.bor_store_sql.specs.Rows.Encoding.{agent_columns, contents, filing_columns, filing_rows, identifier_columns, interest_columns, interest_line_columns, period_columns, register_columns, statement_columns}
+use Rattle.bor_store_sql.specs.Rows.Encoding.{Contents, agent_columns, contents, filing_columns, filing_rows, identifier_columns, interest_columns, interest_line_columns, period_columns, statement_columns, tables_version, versioned_columns}
 use Rattle.bor_store_sql.specs.Rows.Placed.{agent_row, bare, identifier_rows, interest_rows, interest_line, period_rows, placed, register_row}
-use Rattle.bor_store_sql.specs.Rows.Stored.{IsStored}
-use Rattle.bor_store_sql.specs.Shown.{Has, ShowsIn}
+use Rattle.bor_store_sql.specs.Rows.Stored.{AllNumbered, IsStored}
+use Rattle.bor_store_sql.specs.Shown.{Has, HasLists, ShowsIn}
 use Rattle.bor_store_sql.specs.declared.rows.typed.InterestRow.{InterestRow}
 use Rattle.bor_store_sql.specs.declared.rows.typed.Placed.{Placed}
+use Rattle.bor_store_sql.specs.declared.rows.typed.RegisterRow.{RegisterRow}
 use Rattle.bor_store_sql.proofs.OnRows.Apart.{all_apart}
 use Rattle.bor_store_sql.proofs.OnRows.Decoded.{agent_in, filed, filing_back, filing_in, identifier_back, identifier_in, line_back, line_in, period_back, period_in, register_in, same_values, statement_back, statement_in}
 use Rattle.bor_store_sql.proofs.OnRows.Once.{all_filed, same_joined, same_members, same_timed}
@@ -84,85 +85,104 @@ agents_are : (ms : List Member) → map agent_in (map agent_columns ms) ≡ map 
 agents_are [] = refl
 agents_are (m ∷ ms) = ap (λ l. agent_row m ∷ l) (agents_are ms)
 
-module _ (r q : Register) (db : Database) (stored : IsStored r) (stored_too : IsStored q) (has : Has (contents r) db) (has_too : Has (contents q) db) where
-  registers : register_row r ≡ register_row q
-  registers =
-      let one : register_columns r ∷ [] ≡ register_columns q ∷ [] = same_rows [] (register_columns r ∷ []) (register_columns q ∷ []) (db.trees 0) (tt, tt) (tt, tt) has.register has_too.register in
-      let row : register_columns r ≡ register_columns q = cc in
-      ap register_in row
+-- the row of the register in a version
+pub one_row : (version : ℤ) (a b : RegisterRow) (rows : List Row) → Keeps (versioned_columns version a ∷ []) rows → Keeps (versioned_columns version b ∷ []) rows → a ≡ b
+one_row version a b rows keeps keeps_too =
+    let one : versioned_columns version a ∷ [] ≡ versioned_columns version b ∷ [] = same_rows [] (versioned_columns version a ∷ []) (versioned_columns version b ∷ []) rows (tt, tt) (tt, tt) keeps keeps_too in
+    let row : versioned_columns version a ≡ versioned_columns version b = cc in
+    ap register_in row
 
+-- the names go up, and each agent's filings are numbered from 1 on
+abbrev pub AreUp : Register → Type 0
+AreUp r = IsOrdered r.members × AllNumbered r.members
+
+-- ---- the lists that are alike in both versions
+
+module _ (r q : Register) (db : Database) (rise : AreUp r) (rise_too : AreUp q) (has : HasLists (contents r) db) (has_too : HasLists (contents q) db) where
   agents : map agent_row r.members ≡ map agent_row q.members
   agents =
       sym (agents_are r.members)
       ∙ ap (map agent_in) (same_rows (up ∷ []) (map agent_columns r.members) (map agent_columns q.members) (db.trees 2)
-      (ascending-map (IsLower (up ∷ [])) agent_columns r.members (agents_rise r.members stored.ordered)) (ascending-map (IsLower (up ∷ [])) agent_columns q.members (agents_rise q.members stored_too.ordered)) has.agents has_too.agents)
+      (ascending-map (IsLower (up ∷ [])) agent_columns r.members (agents_rise r.members rise.0)) (ascending-map (IsLower (up ∷ [])) agent_columns q.members (agents_rise q.members rise_too.0)) has.agents has_too.agents)
       ∙ agents_are q.members
 
-  filings_up : (s : Register) → IsStored s → IsAscending (IsLower (up ∷ up ∷ [])) (filing_rows s.members)
-  filings_up s is = subst (IsAscending (IsLower (up ∷ up ∷ []))) (sym (filing_rows_are s.members)) (ascending-map (IsLower (up ∷ up ∷ [])) whole (owned s.members) (owned_rise s.members is.ordered is.numbered))
+  filings_up : (s : Register) → AreUp s → IsAscending (IsLower (up ∷ up ∷ [])) (filing_rows s.members)
+  filings_up s is = subst (IsAscending (IsLower (up ∷ up ∷ []))) (sym (filing_rows_are s.members)) (ascending-map (IsLower (up ∷ up ∷ [])) whole (owned s.members) (owned_rise s.members is.0 is.1))
 
   filings : all_filed r.members ≡ all_filed q.members
   filings =
-      sym (filed_are r.members) ∙ ap (map filing_in) (same_rows (up ∷ up ∷ []) (filing_rows r.members) (filing_rows q.members) (db.trees 5) (filings_up r stored) (filings_up q stored_too) has.filings has_too.filings) ∙ filed_are q.members
+      sym (filed_are r.members) ∙ ap (map filing_in) (same_rows (up ∷ up ∷ []) (filing_rows r.members) (filing_rows q.members) (db.trees 5) (filings_up r rise) (filings_up q rise_too) has.filings has_too.filings) ∙ filed_are q.members
 
-  statements_up : (s : Register) → IsStored s → IsAscending (IsLower (up ∷ up ∷ up ∷ [])) (map (λ p. statement_columns (bare p)) (placed s.members))
-  statements_up s is = ascending-map (IsLower (up ∷ up ∷ up ∷ [])) (λ p. statement_columns (bare p)) (placed s.members) (placed_rise s.members is.ordered is.numbered)
+  statements_up : (s : Register) → AreUp s → IsAscending (IsLower (up ∷ up ∷ up ∷ [])) (map (λ p. statement_columns (bare p)) (placed s.members))
+  statements_up s is = ascending-map (IsLower (up ∷ up ∷ up ∷ [])) (λ p. statement_columns (bare p)) (placed s.members) (placed_rise s.members is.0 is.1)
 
   statements : map bare (placed r.members) ≡ map bare (placed q.members)
   statements =
       same_values statement_columns statement_in statement_back (map bare (placed r.members)) (map bare (placed q.members))
-      (sym (rows_of r.members) ∙ same_rows (up ∷ up ∷ up ∷ []) (map (λ p. statement_columns (bare p)) (placed r.members)) (map (λ p. statement_columns (bare p)) (placed q.members)) (db.trees 8) (statements_up r stored) (statements_up q stored_too) has.statements has_too.statements ∙ rows_of q.members)
+      (sym (rows_of r.members) ∙ same_rows (up ∷ up ∷ up ∷ []) (map (λ p. statement_columns (bare p)) (placed r.members)) (map (λ p. statement_columns (bare p)) (placed q.members)) (db.trees 8) (statements_up r rise) (statements_up q rise_too) has.statements has_too.statements ∙ rows_of q.members)
 
-  interests_up : (s : Register) → IsStored s → IsAscending (IsLower (up ∷ up ∷ up ∷ up ∷ [])) (contents s).interests
+  interests_up : (s : Register) → AreUp s → IsAscending (IsLower (up ∷ up ∷ up ∷ up ∷ [])) (contents s).interests
   interests_up s is =
       subst (IsAscending (IsLower (up ∷ up ∷ up ∷ up ∷ []))) (map-flat_map interest_columns interest_rows (placed s.members))
-      (ascending-map (IsLower (up ∷ up ∷ up ∷ up ∷ [])) interest_columns (all_interests s.members) (interest_rows_rise s.members is.ordered is.numbered))
+      (ascending-map (IsLower (up ∷ up ∷ up ∷ up ∷ [])) interest_columns (all_interests s.members) (interest_rows_rise s.members is.0 is.1))
 
   lines : map interest_line (all_interests r.members) ≡ map interest_line (all_interests q.members)
   lines =
       same_values interest_line_columns line_in line_back (map interest_line (all_interests r.members)) (map interest_line (all_interests q.members))
       (sym (lines_are (all_interests r.members)) ∙ map-flat_map interest_columns interest_rows (placed r.members)
-      ∙ same_rows (up ∷ up ∷ up ∷ up ∷ []) (contents r).interests (contents q).interests (db.trees 11) (interests_up r stored) (interests_up q stored_too) has.interests has_too.interests
+      ∙ same_rows (up ∷ up ∷ up ∷ up ∷ []) (contents r).interests (contents q).interests (db.trees 11) (interests_up r rise) (interests_up q rise_too) has.interests has_too.interests
       ∙ sym (map-flat_map interest_columns interest_rows (placed q.members)) ∙ lines_are (all_interests q.members))
 
-  periods_up : (s : Register) → IsStored s → IsAscending (IsLower (up ∷ up ∷ up ∷ up ∷ [])) (contents s).periods
-  periods_up s is =
-      subst (IsAscending (IsLower (up ∷ up ∷ up ∷ up ∷ []))) (sym (table_is s.members))
-      (ascending-map (IsLower (up ∷ up ∷ up ∷ up ∷ [])) day_columns (filter is_said (all_interests s.members)) (ascending-filter IsInterestBefore is_said (all_interests s.members) (interest_rows_rise s.members is.ordered is.numbered)))
-
-  periods : flat_map period_rows (all_interests r.members) ≡ flat_map period_rows (all_interests q.members)
-  periods =
-      same_values period_columns period_in period_back (flat_map period_rows (all_interests r.members)) (flat_map period_rows (all_interests q.members))
-      (listed (all_interests r.members) ∙ sym (table_is r.members)
-      ∙ same_rows (up ∷ up ∷ up ∷ up ∷ []) (contents r).periods (contents q).periods (db.trees 19) (periods_up r stored) (periods_up q stored_too) has.periods has_too.periods
-      ∙ table_is q.members ∙ sym (listed (all_interests q.members)))
-
-  identifiers_up : (s : Register) → IsStored s → IsAscending (IsLower (up ∷ up ∷ up ∷ up ∷ [])) (contents s).identifiers
+  identifiers_up : (s : Register) → AreUp s → IsAscending (IsLower (up ∷ up ∷ up ∷ up ∷ [])) (contents s).identifiers
   identifiers_up s is =
       subst (IsAscending (IsLower (up ∷ up ∷ up ∷ up ∷ []))) (map-flat_map identifier_columns identifier_rows (placed s.members))
-      (ascending-map (IsLower (up ∷ up ∷ up ∷ up ∷ [])) identifier_columns (flat_map identifier_rows (placed s.members)) (identifier_rows_rise s.members is.ordered is.numbered))
+      (ascending-map (IsLower (up ∷ up ∷ up ∷ up ∷ [])) identifier_columns (flat_map identifier_rows (placed s.members)) (identifier_rows_rise s.members is.0 is.1))
 
   identifiers : flat_map identifier_rows (placed r.members) ≡ flat_map identifier_rows (placed q.members)
   identifiers =
       same_values identifier_columns identifier_in identifier_back (flat_map identifier_rows (placed r.members)) (flat_map identifier_rows (placed q.members))
       (map-flat_map identifier_columns identifier_rows (placed r.members)
-      ∙ same_rows (up ∷ up ∷ up ∷ up ∷ []) (contents r).identifiers (contents q).identifiers (db.trees 13) (identifiers_up r stored) (identifiers_up q stored_too) has.identifiers has_too.identifiers
+      ∙ same_rows (up ∷ up ∷ up ∷ up ∷ []) (contents r).identifiers (contents q).identifiers (db.trees 13) (identifiers_up r rise) (identifiers_up q rise_too) has.identifiers has_too.identifiers
       ∙ sym (map-flat_map identifier_columns identifier_rows (placed q.members)))
 
-  -- ---- one register
+  -- where the days of interests are the same too, so are the members
+  pub one_list : flat_map period_rows (all_interests r.members) ≡ flat_map period_rows (all_interests q.members) → r.members ≡ q.members
+  one_list periods =
+      let apart = all_apart r.members rise.0 rise.1 in
+      let apart_too = all_apart q.members rise_too.0 rise_too.1 in
+      let interests = same_timed (all_interests r.members) (all_interests q.members) (all_several (placed r.members) apart) (all_several (placed q.members) apart_too) lines periods in
+      same_members r.members q.members rise.0 rise_too.0 rise.1 rise_too.1 agents filings (same_joined (placed r.members) (placed q.members) apart apart_too statements interests identifiers)
 
-  interests : all_interests r.members ≡ all_interests q.members
-  interests =
-      same_timed (all_interests r.members) (all_interests q.members) (all_several (placed r.members) (all_apart r.members stored.ordered stored.numbered))
-      (all_several (placed q.members) (all_apart q.members stored_too.ordered stored_too.numbered)) lines periods
+-- ---- version 2
 
-  all_placed : placed r.members ≡ placed q.members
-  all_placed =
-      same_joined (placed r.members) (placed q.members) (all_apart r.members stored.ordered stored.numbered) (all_apart q.members stored_too.ordered stored_too.numbered) statements interests identifiers
+module _ (r q : Register) (db : Database) (stored : IsStored r) (stored_too : IsStored q) (has : Has (contents r) db) (has_too : Has (contents q) db) where
+  rise : AreUp r
+  rise = (stored.ordered, stored.numbered)
+
+  rise_too : AreUp q
+  rise_too = (stored_too.ordered, stored_too.numbered)
+
+  lists : (t : Contents) → Has t db → HasLists t db
+  lists t h = record { schema = inr h.schema; agents = h.agents; filings = h.filings; statements = h.statements; interests = h.interests; identifiers = h.identifiers }
+
+  registers : register_row r ≡ register_row q
+  registers = one_row tables_version (register_row r) (register_row q) (db.trees 0) has.register has_too.register
+
+  periods_up : (s : Register) → AreUp s → IsAscending (IsLower (up ∷ up ∷ up ∷ up ∷ [])) (contents s).periods
+  periods_up s is =
+      subst (IsAscending (IsLower (up ∷ up ∷ up ∷ up ∷ []))) (sym (table_is s.members))
+      (ascending-map (IsLower (up ∷ up ∷ up ∷ up ∷ [])) day_columns (filter is_said (all_interests s.members)) (ascending-filter IsInterestBefore is_said (all_interests s.members) (interest_rows_rise s.members is.0 is.1)))
+
+  periods : flat_map period_rows (all_interests r.members) ≡ flat_map period_rows (all_interests q.members)
+  periods =
+      same_values period_columns period_in period_back (flat_map period_rows (all_interests r.members)) (flat_map period_rows (all_interests q.members))
+      (listed (all_interests r.members) ∙ sym (table_is r.members)
+      ∙ same_rows (up ∷ up ∷ up ∷ up ∷ []) (contents r).periods (contents q).periods (db.trees 19) (periods_up r rise) (periods_up q rise_too) has.periods has_too.periods
+      ∙ table_is q.members ∙ sym (listed (all_interests q.members)))
 
   pub one_register : r ≡ q
   one_register =
-      let members = same_members r.members q.members stored.ordered stored_too.ordered stored.numbered stored_too.numbered agents filings all_placed in
+      let members = one_list r q db rise rise_too (lists (contents r) has) (lists (contents q) has_too) periods in
       λ k. record { day = (registers k).day; registrar = (registers k).registrar; members = members k }
 
 -- the same of what the last commit left

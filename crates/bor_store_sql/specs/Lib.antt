@@ -7,6 +7,7 @@ pub mod Blank
 pub mod Beside
 pub mod Ran
 pub mod Moving
+pub mod Undated
 pub mod Laws
 pub mod Fitting
 pub mod Texts

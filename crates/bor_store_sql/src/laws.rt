@@ -1,7 +1,7 @@
 //! Laws of tables. Each function does nothing: its contract is the law, and it is proved for all
 //! tables.
 
-ghost use Rattle.bor_store_sql.specs.Laws.{OpenTablesLast, TablesShowOneRegister};
+ghost use Rattle.bor_store_sql.specs.Laws.{FirstTablesTellAllButDays, OpenTablesLast, TablesShowOneRegister};
 
 use sqlite::Alter;
 
@@ -10,6 +10,13 @@ use sqlite::Alter;
 /// with their days, and identifiers.
 pub fn tables_show_one_register()
     ensures { TablesShowOneRegister }
+{}
+
+/// Tables of version 1 tell all of a register but the days of its interests: whichever two registers
+/// they show, these are one where no interest has a day. And they have the rows of each register
+/// that differs in these days alone.
+pub fn first_tables_tell_all_but_days()
+    ensures { FirstTablesTellAllButDays }
 {}
 
 /// Answered changes last: where the machine stops while a connection is open, its disk has returned

@@ -1,6 +1,7 @@
 -- The rows of a register with two agents: alder has lodged a file of three statements and withdrawn another, birch nothing.
-use Rattle.std.proofs.Common.{◌≡◌, pos, true, false, [], ◌∷◌, Some, None, codes, refl}
+use Rattle.std.proofs.Common.{◌≡◌, ◌≢◌, ℕ, ℤ, pos, true, false, [], ◌∷◌, map, Option, Some, None, codes, refl, ap, arith}
 use Rattle.sqlite.specs.declared.types.Value.TheVariants.{Null, Int, Text, Blob}
+use Rattle.bor_terms.specs.Span.{Range}
 use Rattle.bods_read.specs.Words.{type_word, type_worded, status_word, status_worded, entity_word, person_word, interest_word, directness_word}
 use Rattle.bods_read.specs.declared.statement.Statement.{Statement}
 use Rattle.bods_read.specs.declared.statement.Status.TheVariants.{New}
@@ -9,9 +10,12 @@ use Rattle.bods_read.specs.declared.details.EntityKind.TheVariants.{RegisteredEn
 use Rattle.bods_read.specs.declared.details.PersonKind.TheVariants.{KnownPerson}
 use Rattle.bods_read.specs.declared.interest.InterestKind.TheVariants.{VotingRights, Other}
 use Rattle.bods_read.specs.declared.interest.Directness.TheVariants.{Direct, Unknown}
+use Rattle.bods_read.specs.declared.interest.Interest.{Interest}
 use Rattle.bor_register.specs.Register.{Register}
 use Rattle.bor_register.specs.declared.filing.AcceptedFiling.{AcceptedFiling}
 use Rattle.bor_store_sql.specs.Rows.Encoding.{contents}
+use Rattle.bor_store_sql.specs.Shown.{first_contents}
+use Rattle.bor_store_sql.specs.Undated.{undated, undated_filing, undated_statement, without_days}
 use Rattle.bor_store_sql.specs.Rows.Words.{entity_kind_of, person_kind_of, interest_kind_of, directness_named}
 
 -- ---- the register
@@ -107,6 +111,47 @@ period_rows = refl
 identifier_rows : (contents kept).identifiers ≡ (Text (codes "alder") ∷ Int (pos 1) ∷ Int (pos 1) ∷ Int (pos 1) ∷ Text (codes "GB-COH") ∷ Text (codes "01234567") ∷ []) ∷ []
 unfolding kept lodged withdrawn company owner holding
 identifier_rows = refl
+
+-- ---- its tables of version 1
+
+-- the holding without the day on which it starts
+undated_holding : undated_statement holding ≡ record holding {
+  details = Relationship (Some (codes "e1")) (Some (codes "p1"))
+      (record { kind = VotingRights; directness = Direct; share = Some (record { low = 25; low_open = true; high = 50; high_open = false }); starts = None; ends = None }
+      ∷ record { kind = Other; directness = Unknown; share = None; starts = None; ends = None } ∷ []);
+}
+unfolding holding
+undated_holding = refl
+
+-- all else stays, the bytes of the file too
+undated_alder : map undated_filing (lodged ∷ withdrawn ∷ []) ≡ record lodged { statements = company ∷ owner ∷ undated_statement holding ∷ [] } ∷ withdrawn ∷ []
+unfolding lodged withdrawn company owner
+undated_alder = refl
+
+-- a holding of other days, and one of a greater share
+abbrev held : ℕ → Option ℤ → Option ℤ → Interest
+held low starts ends = record { kind = VotingRights; directness = Direct; share = Some (record { low = low; low_open = true; high = 50; high_open = false }); starts = starts; ends = ends }
+
+other_days : undated (held 25 (Some (pos 19755)) (Some (pos 19800))) ≡ undated (held 25 None None)
+other_days = refl
+
+abbrev low_of : Option Range → ℕ
+low_of None = 0
+low_of (Some share) = share.low
+
+other_share : undated (held 26 None None) ≢ undated (held 25 None None)
+other_share same = let no : 26 ≡ 25 = ap (λ (i : Interest). low_of i.share) same in absurd (omega (arith, no))
+
+first_register_row : (first_contents kept).register ≡ (Int (pos 1) ∷ Int (pos 1) ∷ Int (pos 19754) ∷ Text (codes "registrar-token-1") ∷ []) ∷ []
+unfolding kept
+first_register_row = refl
+
+no_period_rows : (first_contents kept).periods ≡ []
+no_period_rows = refl
+
+undated_rows : first_contents (without_days kept) ≡ first_contents kept
+unfolding kept lodged withdrawn company owner holding
+undated_rows = refl
 
 -- ---- texts that are no words
 
