@@ -1,6 +1,6 @@
 -- Steps of clients are steps of the server.
 use Rattle.bor_register.specs.declared.fault.StoreFault.{StoreFault}
-use Rattle.std.proofs.Common.{◌≡◌, ◌≢◌, ◌<◌, ◌∙◌, ◌++◌, List, [], ◌∷◌, ℕ, Option, Some, arith, inl, inr, refl, sym, subst}
+use Rattle.std.proofs.Common.{◌≡◌, ◌≢◌, ◌<◌, ◌∙◌, ◌++◌, List, [], ◌∷◌, ℕ, Option, None, Some, arith, inl, inr, refl, sym, subst}
 use Rattle.std.specs.declared.time.Duration.{Duration}
 use Rattle.bor_records.specs.Promises.{Meaning, Promised}
 use Rattle.bor_register.specs.Register.{Register}
@@ -16,7 +16,7 @@ use Rattle.bor_program.specs.declared.connections.phase.Pace.{Pace}
 use Rattle.bor_program.specs.declared.connections.phase.Pace.TheVariants.{Blocked, Moved, Turned}
 use Rattle.bor_program.specs.declared.connections.phase.Step.TheVariants.{Goes}
 use Rattle.bor_program.specs.Connections.Phases.{IsStep, ReadsOn, Stand, stand_at}
-use Rattle.bor_program.specs.Connections.Times.{IsIdleSince, IsPaced, moves_of}
+use Rattle.bor_program.specs.Connections.Times.{IsBegun, IsIdleSince, IsPaced, IsTurned, moves_of, turns_of}
 use Rattle.bor_program.proofs.OnConnections.Served.{answers}
 
 -- nothing was answered
@@ -89,3 +89,19 @@ idle_on first old next Turned begun idle later now h paced blocked other =
     idle_moved (moves_of first) (moves_of old) (moves_of next) begun idle later now h paced (other (λ is. cc))
 idle_on first old next Blocked begun idle later now h paced blocked other =
     idle_still (moves_of first) (moves_of old) (moves_of next) begun idle later now h paced (blocked refl)
+
+begun_still : (first old next : ℕ) (before since later : Option Duration) → IsBegun first old before since → next ≡ old → later ≡ since → IsBegun first next before later
+begun_still first old next before since later h same is = record {
+  on = omega (arith, h.on, same);
+  same = λ none. is ∙ h.same (omega (arith, none, same));
+  turned = λ some. is ∙ h.turned (omega (arith, some, same));
+}
+
+pub begun_on : {S : Type 0} (first old next : Phase S) (pace : Pace) (before since later : Option Duration) → IsBegun (turns_of first) (turns_of old) before since → IsTurned old (Goes next pace)
+    → (pace ≡ Turned → later ≡ None) → (pace ≢ Turned → later ≡ since) → IsBegun (turns_of first) (turns_of next) before later
+begun_on first old next Turned before since later h turns turned other =
+    record { on = omega (arith, h.on, turns); same = λ none. absurd (omega (arith, none, turns, h.on)); turned = λ some. turned refl }
+begun_on first old next Moved before since later h turns turned other =
+    begun_still (turns_of first) (turns_of old) (turns_of next) before since later h turns (other (λ is. cc))
+begun_on first old next Blocked before since later h turns turned other =
+    begun_still (turns_of first) (turns_of old) (turns_of next) before since later h turns (other (λ is. cc))

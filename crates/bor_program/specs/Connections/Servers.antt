@@ -3,7 +3,7 @@ use Rattle.bor_register.specs.declared.fault.StoreFault.{StoreFault}
 use Rattle.bor_records.specs.Promises.{Meaning}
 use Rattle.std.specs.Prelude.{◌≡◌, ◌≤◌, ◌<◌, ◌+◌, ℕ, List, [], ◌∷◌, ◌++◌, length, map, get_or}
 use Rattle.std.specs.Prelude.{remove, Option, Some, None, if◌then◌else◌, Bool, true, false, set}
-use Rattle.std.specs.Prelude.{◌⊎◌}
+use Rattle.std.specs.Prelude.{◌⊎◌, unwrap_or}
 use Rattle.std.specs.Duration.{as_nanos}
 use Rattle.std.specs.declared.time.Duration.{Duration}
 use Rattle.std.specs.VecDeque.{deque_capacity, deque_len}
@@ -23,9 +23,9 @@ use Rattle.bor_program.specs.Connections.Serving.{has_failed, told_in}
 use Rattle.bor_program.specs.Connections.Streams.{EndedOn, Wire}
 use Rattle.bor_program.specs.Connections.Phases.{IsHeld, ReadsOn, telling}
 use Rattle.bor_program.specs.Connections.Places.{is_place_taken, is_ready, taken_in}
-use Rattle.bor_program.specs.Connections.Times.{IsIdleSince, IsTimeLeft, IsOverdue, IsPatient}
-use Rattle.bor_program.specs.Connections.Times.{IsTaking, IsTimeUp, fresh, moves_of}
-use Rattle.bor_program.specs.Connections.Times.{taking_once_read}
+use Rattle.bor_program.specs.Connections.Times.{IsBegun, IsIdleSince, IsOverdue, IsPatient}
+use Rattle.bor_program.specs.Connections.Times.{IsTaking, IsTimeLeft, IsTimeUp, fresh, moves_of}
+use Rattle.bor_program.specs.Connections.Times.{taking_once_read, turns_of}
 use Rattle.bor_program.specs.Connections.Watching.{Act, AreDone, DoesUnwaiting, IsOver, OnWait}
 use Rattle.bor_program.specs.Connections.Watching.{faults_after, is_asking, is_coming}
 use Rattle.bor_program.specs.Connections.Watching.{is_unwatched, notes_in}
@@ -124,6 +124,8 @@ pub record IsTimely {S : Type 0} (now : Duration) (client : Client S)
       → last.place ≡ client.place
   pub idle : (last : Client S) → new.queue.items ≡ old.queue.items ++ last ∷ []
       → last.timing.idle_since ≡ client.timing.idle_since
+  pub begun : (last : Client S) → new.queue.items ≡ old.queue.items ++ last ∷ []
+      → last.timing.since ≡ Some (unwrap_or client.timing.since now)
 
 -- A client had its turn: where it is put behind the others, this is known of how it takes its
 -- reply, and nothing where that was made in this turn, after the clock was read.
@@ -137,6 +139,14 @@ abbrev pub IsReadOn : {S : Type 0} → (S → Option (List ℕ)) → Client S �
 IsReadOn {S} remaining client old new =
     (last : Client S) → new.queue.items ≡ old.queue.items ++ last ∷ []
     → ReadsOn remaining client.phase last.phase
+
+-- the time of its phase began as before, or begins now, where this is a new one or none began
+abbrev pub IsBegunOn : {S : Type 0} → Duration → Client S → Server S → Server S → Type 0
+IsBegunOn {S} now client old new =
+    (last : Client S) → new.queue.items ≡ old.queue.items ++ last ∷ []
+    → (since : Option Duration)
+    × IsBegun (turns_of client.phase) (turns_of last.phase) client.timing.since since
+    × (last.timing.since ≡ Some (unwrap_or since now))
 
 -- it is idle as before, or since now, where bytes were read or written in this turn
 abbrev pub IsIdleOn : {S : Type 0} → Duration → Client S → Server S → Server S → Type 0

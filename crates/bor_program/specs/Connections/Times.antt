@@ -139,3 +139,24 @@ pub record IsIdleSince (moves later : ℕ) (old now new : Duration) : Type 0 whe
   pub on : moves ≤ later
   pub idle : later ≡ moves → new ≡ old
   pub busy : moves < later → new ≡ now
+
+-- ---- since when its time runs
+
+-- so many phases of it are over
+abbrev pub turns_of : {S : Type 0} → Phase S → ℕ
+turns_of (phase.Reading reading) = 0
+turns_of (phase.Writing writing) = 1
+turns_of (phase.Draining draining) = 2
+
+-- a step ends a phase exactly where it says so
+abbrev pub IsTurned : {S : Type 0} → Phase S → Step S → Type 0
+IsTurned old (step.Goes new pace.Turned) = turns_of old < turns_of new
+IsTurned old (step.Goes new pace.Moved) = turns_of new ≡ turns_of old
+IsTurned old (step.Goes new pace.Blocked) = turns_of new ≡ turns_of old
+IsTurned old (step.Ends new) = ⊤
+
+-- The time of a phase that goes on began as before. That of a new one has not begun.
+pub record IsBegun (turns later : ℕ) (old new : Option Duration) : Type 0 where
+  pub on : turns ≤ later
+  pub same : later ≡ turns → new ≡ old
+  pub turned : turns < later → new ≡ None

@@ -4,7 +4,7 @@ ghost use Rattle.std.specs.Prelude.{◌≡◌, ◌⊎◌, ◌+◌, ◌-◌, ◌<
 ghost use Rattle.std.specs.VecDeque.{deque_capacity, deque_len};
 ghost use Rattle.std.specs.Duration.{as_nanos};
 ghost use Rattle.bor_program.specs.Connections.Phases.{IsHeld, telling};
-ghost use Rattle.bor_program.specs.Connections.Servers.{Advances, AllRemain, AreHeld, AreSeated, AreWaitedFor, AsksWhoComes, Becomes, EndsWithNew, FirstRemains, GivesWay, HasRoom, IsAtOnce, IsIdleOn, IsLongestIdle, IsNobodyToCome, IsReadOn, IsSameElse, IsTimed, IsTimely, Lets, LetsIn, NamesNone, Remains, Serves, StaysInQueue, Waiting, Welcomes, pending_in, telling_in};
+ghost use Rattle.bor_program.specs.Connections.Servers.{Advances, AllRemain, AreHeld, AreSeated, AreWaitedFor, AsksWhoComes, Becomes, EndsWithNew, FirstRemains, GivesWay, HasRoom, IsAtOnce, IsBegunOn, IsIdleOn, IsLongestIdle, IsNobodyToCome, IsReadOn, IsSameElse, IsTimed, IsTimely, Lets, LetsIn, NamesNone, Remains, Serves, StaysInQueue, Waiting, Welcomes, pending_in, telling_in};
 ghost use Rattle.bor_program.specs.Connections.Streams.{wire_of};
 ghost use Rattle.bor_program.specs.Connections.Times.{IsPatient};
 ghost use Rattle.bor_program.specs.Connections.Places.{Takes, is_ready, place_count, taken_in};
@@ -340,6 +340,7 @@ impl<S: Read + Write + OpenStream + Drop> Server<S> {
         ensures all { IsReadOn S.remaining client self.old self.new }
         ensures time { IsTimed now client self.old self.new }
         ensures idle { IsIdleOn now client self.old self.new }
+        ensures begun { IsBegunOn now client self.old self.new }
         ensures remains { Remains now client self.old self.new }
         ensures named { NamesNone self.old.places self.new.places }
         ensures waits { Waiting (Some now) self.old.queue.items self.old self.new }

@@ -6,7 +6,7 @@ ghost use Rattle.bor_program.specs.declared.connections.phase.Phase.TheVariants 
 ghost use Rattle.bor_program.specs.declared.connections.taking.Taking.{Taking};
 ghost use Rattle.bor_program.specs.Connections.Phases.{EndsAs, IsHeld, IsStep, ReadsOn, phase_of, stand_at, telling};
 ghost use Rattle.bor_program.specs.Connections.Streams.{wire_of};
-ghost use Rattle.bor_program.specs.Connections.Times.{IfGoes, IsIdleSince, IsOverdue, IsPaced, IsTaking, IsTimeUp, taking_once_read, moves_of};
+ghost use Rattle.bor_program.specs.Connections.Times.{IfGoes, IsBegun, IsIdleSince, IsOverdue, IsPaced, IsTaking, IsTimeUp, IsTurned, moves_of, taking_once_read, turns_of};
 ghost use Rattle.bor_program.specs.declared.connections.limits.Limits.{Limits};
 ghost use Rattle.bor_program.specs.declared.connections.phase.Pace.TheVariants as Pace;
 ghost use Rattle.bor_program.specs.declared.connections.phase.Step.TheVariants as Step;
@@ -41,6 +41,7 @@ pub(crate) fn step<K: Keep, S: Read + Write + OpenStream + Drop>(
     ensures time { (taking : Option Taking) → IsTaking taking phase
         → IsTaking taking (phase_of result) }
     ensures pace { IsPaced phase result }
+    ensures turn { IsTurned phase result }
 {
     match phase {
         Phase::Reading(reading) => read_on(service, keep, reading),
@@ -63,6 +64,7 @@ fn read_on<K: Keep, S: Read + Write + OpenStream + Drop>(
     ensures all { ReadsOn S.remaining (Phase.Reading reading) (phase_of result) }
     ensures time { IsTaking None (phase_of result) }
     ensures pace { IsPaced (Phase.Reading reading) result }
+    ensures turn { IsTurned (Phase.Reading reading) result }
 {
     match reading.read(service.alloc()) {
         Taken::More => Step::Goes(Phase::Reading(reading), Pace::Moved),
@@ -88,6 +90,7 @@ fn write_on<S: Read + Write + OpenStream + Drop>(mut writing: Writing<S>) -> Ste
     ensures all { ReadsOn S.remaining (Phase.Writing writing) (phase_of result) }
     ensures time { IsTaking writing.taking (phase_of result) }
     ensures pace { IsPaced (Phase.Writing writing) result }
+    ensures turn { IsTurned (Phase.Writing writing) result }
 {
     match writing.write() {
         Written::More => Step::Goes(Phase::Writing(writing), Pace::Moved),
@@ -106,6 +109,7 @@ fn drain_on<S: Read + Write + Drop>(mut draining: Draining<S>) -> Step<S>
     ensures all { ReadsOn S.remaining (Phase.Draining draining) (phase_of result) }
     ensures time { (taking : Option Taking) → IsTaking taking (phase_of result) }
     ensures pace { IsPaced (Phase.Draining draining) result }
+    ensures turn { IsTurned (Phase.Draining draining) result }
 {
     match draining.drain() {
         Drained::More => Step::Goes(Phase::Draining(draining), Pace::Moved),
@@ -122,6 +126,7 @@ pub(crate) fn look<S: Read + Write + OpenStream + Drop>(phase: Phase<S>, now: Du
     ensures all { ReadsOn S.remaining phase result }
     ensures time { IsTaking (taking_once_read phase now) result }
     ensures same { moves_of result ≡ moves_of phase }
+    ensures on { turns_of result ≡ turns_of phase }
     ensures due { (limits : Limits) (timing : Timing) → IsTimeUp limits timing result now
         → IsOverdue limits timing.since phase now }
 {
@@ -153,6 +158,8 @@ pub(crate) fn steps<K: Keep, S: Read + Write + OpenStream + Drop>(
         → IsTaking taking (phase_of result) }
     ensures idle { IfGoes result (λ next. IsIdleSince (moves_of phase) (moves_of next)
         timing.old.idle_since now timing.new.idle_since) }
+    ensures begun { IfGoes result (λ next.
+        IsBegun (turns_of phase) (turns_of next) timing.old.since timing.new.since) }
     ensures still { timing.old.is_ready ≡ false
         → (result ≡ Step.Goes phase Pace.Blocked) × (timing.new ≡ timing.old) }
 {

@@ -2,7 +2,7 @@ use Rattle.std.proofs.Common.{◌≡◌, ◌∙◌, Bool, ap, arith, false, refl
 use Rattle.bor_program.specs.declared.connections.phase.Pace.TheVariants.{Blocked}
 use Rattle.bor_program.specs.declared.connections.phase.Step.TheVariants.{Goes}
 use Rattle.bor_program.specs.Connections.Phases.{stand_at, telling}
-use Rattle.bor_program.proofs.OnConnections.Phases.{idle_on, reads_same, reads_then, then_steps}
+use Rattle.bor_program.proofs.OnConnections.Phases.{begun_on, idle_on, reads_same, reads_then, then_steps}
 use Rattle.bor_program.proofs.connections.step.steps.Goals as goal
 
 unready : (is_ready : Bool) → is_ready ≡ false → is_ready ≡ true → ⊥
@@ -27,6 +27,7 @@ loop-preserved g c = record {
   all = reads_then g.S.Read.remaining c.args.phase c.loop.phase c.in-Goes.next c.loop.invariant.all c.in-Goes.ensures.all;
   still = λ is. absurd (unready c.loop.timing.is_ready (ap (λ t. t.is_ready) (c.loop.invariant.still is).2 ∙ is) (sym c.is_ready.ensures ∙ c.if-not-is_ready.false));
   idle = idle_on c.args.phase c.loop.phase c.in-Goes.next c.in-Goes.pace c.args.timing.now.idle_since c.loop.timing.idle_since _ c.args.now c.loop.invariant.idle c.in-Goes.ensures.pace c.pass.ensures.idle c.pass.ensures.busy;
+  begun = begun_on c.args.phase c.loop.phase c.in-Goes.next c.in-Goes.pace c.args.timing.now.since c.loop.timing.since _ c.loop.invariant.begun c.in-Goes.ensures.turn c.pass.ensures.begins c.pass.ensures.begun;
   time = λ taking is. c.in-Goes.ensures.time taking (c.loop.invariant.time taking is);
 }
 
@@ -37,6 +38,7 @@ loop-init g c = record {
   all = reads_same g.S.Read.remaining c.args.phase;
   still = λ is. (refl, refl, refl);
   idle = record { on = omega arith; idle = λ same. refl; busy = λ lt. absurd (omega (arith, lt)) };
+  begun = record { on = omega arith; same = λ same. refl; turned = λ lt. absurd (omega (arith, lt)) };
   time = λ taking is. is;
 }
 

@@ -1,7 +1,7 @@
 use Rattle.std.proofs.Common.{◌≡◌, Option, false}
 use Rattle.bor_program.specs.declared.connections.taking.Taking.{Taking}
 use Rattle.bor_program.specs.Connections.Phases.{IsHeld, IsStep, ReadsOn, stand_at, telling}
-use Rattle.bor_program.specs.Connections.Times.{IsIdleSince, IsTaking, moves_of}
+use Rattle.bor_program.specs.Connections.Times.{IsBegun, IsIdleSince, IsTaking, moves_of, turns_of}
 use Rattle.bor_program.specs.Connections.Streams.{wire_of}
 use Rattle.bor_program.proofs.connections.step.steps.Given as goal
 
@@ -12,5 +12,6 @@ invariant-loop g l = record {
   all : ReadsOn g.S.Read.remaining l.fn.phase l.phase;
   still : l.fn.timing.is_ready ≡ false → (l.counter ≡ 0) × (l.phase ≡ l.fn.phase) × (l.timing ≡ l.fn.timing);
   idle : IsIdleSince (moves_of l.fn.phase) (moves_of l.phase) l.fn.timing.idle_since l.now l.timing.idle_since;
+  begun : IsBegun (turns_of l.fn.phase) (turns_of l.phase) l.fn.timing.since l.timing.since;
   time : (taking : Option Taking) → IsTaking taking l.fn.phase → IsTaking taking l.phase;
 }

@@ -12,6 +12,7 @@ returns-after-is_ready-clause-time g c = record {
   same = λ last is. ap (λ x. x.phase) (c.stay.ensures.stays.same last is);
   place = λ last is. ap (λ x. x.place) (c.stay.ensures.stays.same last is);
   idle = λ last is. ap (λ x. x.timing.idle_since) (c.stay.ensures.stays.same last is) ∙ c.left-left.ensures.idle;
+  begun = λ last is. ap (λ x. x.timing.since) (c.stay.ensures.stays.same last is) ∙ c.left-left.ensures.begun;
 }
 
 pub returns-after-is_ready-clause-waits : goal.returns-after-is_ready-clause-waits

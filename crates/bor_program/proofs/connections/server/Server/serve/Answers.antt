@@ -2,7 +2,7 @@ use Rattle.std.proofs.Common.{◌≡◌, ◌∙◌, ◌+◌, ◌++◌, ap, false
 use Rattle.bor_program.specs.Connections.Phases.{ReadsOn, telling}
 use Rattle.bor_program.specs.Connections.Serving.{Tally}
 use Rattle.bor_program.specs.Connections.Servers.{pending_in, tally_in, telling_in}
-use Rattle.bor_program.specs.Connections.Times.{IsOverdue, IsTaking, IsTimeUp, taking_once_read, moves_of}
+use Rattle.bor_program.specs.Connections.Times.{IsBegun, IsOverdue, IsTaking, IsTimeUp, moves_of, taking_once_read, turns_of}
 use Rattle.bor_program.proofs.OnConnections.Phases.{reads_then}
 use Rattle.bor_program.proofs.OnConnections.Servers.{lets_go_same}
 use Rattle.bor_program.proofs.OnConnections.Remaining.{names_none}
@@ -35,6 +35,14 @@ returns-in-Goes-clause-all g c = λ last is.
     let remaining = g.S.Read.remaining in
     let old = c.args.client.phase in
     subst (ReadsOn remaining old) (sym (c.go_on.ensures.time.same last is)) (reads_then remaining old c.look-phase.result c.in-Goes.phase c.look-phase.ensures.all c.in-Goes.ensures.all)
+
+pub returns-in-Goes-clause-begun : goal.returns-in-Goes-clause-begun
+returns-in-Goes-clause-begun g c = λ last is.
+    let since = c.steps.new.timing.since in
+    let client = c.args.client in
+    let stepped : IsBegun (turns_of client.phase) (turns_of c.in-Goes.phase) client.timing.since since =
+    rw (sym c.look-phase.ensures.on, sym c.rouse.ensures.begun) c.in-Goes.ensures.begun in
+    (since, subst (λ p. IsBegun (turns_of client.phase) (turns_of p) client.timing.since since) (sym (c.go_on.ensures.time.same last is)) stepped, c.go_on.ensures.time.begun last is)
 
 pub returns-in-Ends-clause-waits : goal.returns-in-Ends-clause-waits
 returns-in-Ends-clause-waits g c =
