@@ -8,7 +8,7 @@ ghost use Rattle.sqlite_schema.specs.Names.{same_name, column_named};
 ghost use Rattle.bor_register.specs.Register.{Register};
 ghost use Rattle.bor_store_sql.specs.Rows.Encoding.{tables_version};
 ghost use Rattle.bor_store_sql.specs.Shown.{IsClean, IsUp, ShowsFirst, ShowsIn};
-ghost use Rattle.bor_store_sql.specs.Found.{Asked, ReadsOnly};
+ghost use Rattle.bor_store_sql.specs.Found.{AnswersQuery, ReadsOnly};
 ghost use Rattle.bor_store.specs.Opening.{AreVersions, IsFailure, IsJudged, IsRegister, RefusesFirst, answer_of, conn_in, has_all, has_first, is_versioned, version_in, version_text};
 ghost use Rattle.bor_store.specs.declared.open_fault.OpenFault.TheVariants as faults;
 
@@ -109,7 +109,7 @@ pub(crate) fn has_all(schema: &Schema) -> bool
 /// The versions that the table `register` tells, a row each. A connection with a transaction open
 /// is refused.
 pub(crate) fn version_rows<S: Alter>(conn: &mut Connection<S>) -> Result<Vec<Row>, Error>
-    ensures asked { Asked version_text [] (state S.Store conn.old) (state S.Store conn.new) result }
+    ensures asked { AnswersQuery version_text [] (state S.Store conn.old) (state S.Store conn.new) result }
     ensures versions { HasCleanDisk (state S.Store conn.new)
         → IfOk result (λ rows. AreVersions (state S.Store conn.old) rows.items) }
     ensures same { HasCleanDisk (state S.Store conn.new)

@@ -6,7 +6,7 @@ ghost use Rattle.bor_register.specs.Limits.{filings_limit};
 ghost use Rattle.bor_register.specs.Register.{Register, is_enrolled, filings_of};
 ghost use Rattle.bor_store_sql.specs.Shown.{Commits, IsClean, LeavesAtMost, ShowsIn, Stands};
 ghost use Rattle.bor_store_sql.specs.Changing.{added};
-ghost use Rattle.bor_store_reads.specs.Answering.{IsNoDamage, Reads};
+ghost use Rattle.bor_store_reads.specs.Answering.{IsNoDamage, ReadsIn};
 ghost use Rattle.bor_store.specs.Telling.{IsNextFiling};
 
 use crate::forms::all_formed;
@@ -23,7 +23,7 @@ fn next_number<S: Alter>(
     alloc: Global,
     agent: &AgentName,
 ) -> Result<u32, ReadError>
-    ensures { Reads S.Store conn.old conn.new result (λ r number.
+    ensures { ReadsIn S.Store conn.old conn.new result (λ r number.
         number ≡ length (filings_of agent.now r.members) + 1) }
 {
     let count = filing_count(conn, alloc, agent)?;
