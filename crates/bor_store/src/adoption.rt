@@ -106,8 +106,8 @@ pub(crate) fn has_all(schema: &Schema) -> bool
     has_first(schema) && has_table(schema, "period", &PERIOD)
 }
 
-/// The versions that the table `register` tells, a row each. A connection with a transaction open is
-/// refused.
+/// The versions that the table `register` tells, a row each. A connection with a transaction open
+/// is refused.
 pub(crate) fn version_rows<S: Alter>(conn: &mut Connection<S>) -> Result<Vec<Row>, Error>
     ensures asked { AnswersQuery version_text [] (state S.Store conn.old) (state S.Store conn.new) result }
     ensures versions { HasCleanDisk (state S.Store conn.new)
@@ -153,8 +153,8 @@ fn judge(version: i64, is_whole: bool) -> Result<(), OpenFault>
 }
 
 /// Whether the tables of a connection are those of a register, as [`SqlKeep::adopt`] asks. The
-/// connection is only read (`ReadsOnly`); with a transaction open it is [`OpenFault::Store`]. If the
-/// disk has returned what was written, the faults other than `Memory` and `Store` are, in their
+/// connection is only read (`ReadsOnly`); with a transaction open it is [`OpenFault::Store`]. If
+/// the disk has returned what was written, the faults other than `Memory` and `Store` are, in their
 /// order: [`OpenFault::NoRegister`] where there is no table `register` with the columns `one` and
 /// `version`, or not exactly one row in it, with a whole version; [`OpenFault::OtherVersion`] where
 /// that isn't 2; `NoRegister` where another table or column of a register is missing.
@@ -193,10 +193,10 @@ pub fn examine<S: Alter>(conn: &mut Connection<S>) -> Result<(), OpenFault>
 
 impl<S: Alter + Drop> SqlKeep<S> {
     /// The register that the tables of a connection are, which are only read (`ReadsOnly`). A
-    /// refusal gives the connection back. With a transaction open it is [`OpenFault::Store`]. If the
-    /// disk has returned what was written, the faults other than `Memory` and `Store` are, in their
-    /// order: [`OpenFault::NoRegister`] where there is no table `register` with the columns `one`
-    /// and `version`, or not exactly one row in it, with a whole version;
+    /// refusal gives the connection back. With a transaction open it is [`OpenFault::Store`]. If
+    /// the disk has returned what was written, the faults other than `Memory` and `Store` are, in
+    /// their order: [`OpenFault::NoRegister`] where there is no table `register` with the columns
+    /// `one` and `version`, or not exactly one row in it, with a whole version;
     /// [`OpenFault::OtherVersion`] where that isn't 2; `NoRegister` where another table or column
     /// of a register is missing.
     pub fn adopt(alloc: Global, conn: Connection<S>) -> Result<SqlKeep<S>, Refused<Connection<S>>>

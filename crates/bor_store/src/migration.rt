@@ -110,18 +110,18 @@ fn move_first<S: Alter>(conn: &mut Connection<S>, alloc: Global) -> Result<(), O
 
 /// Moves the tables of a register from version 1 to version 2, in one transaction: the table
 /// `period` is made and filled from the files of the live filings, and the version is set. Tables
-/// of version 2 stay as they are. With a transaction open it is [`OpenFault::Store`], and nothing is
-/// done. Else [`OpenFault::NoRegister`] comes first, where there is no table `register` with the
+/// of version 2 stay as they are. With a transaction open it is [`OpenFault::Store`], and nothing
+/// is done. Else [`OpenFault::NoRegister`] comes first, where there is no table `register` with the
 /// columns `one` and `version`, or not exactly one row in it, with a whole version; then
 /// [`OpenFault::OtherVersion`] where that is neither 1 nor 2; then `NoRegister` where another table
-/// or column of a register of this version is missing. Of version 1 [`OpenFault::Taken`] comes where
-/// a table, an index or a view is named `period`, and then [`OpenFault::Damaged`] where the reader
-/// refuses the file of a live filing, or what it is read to isn't what the tables have of the
-/// filing, but for statuses that it leaves out and for days, or a row of a filing has a value of no
-/// form. A fault other than `Memory` and `Store` comes before anything is written (`ReadsOnly`).
-/// These two leave the tables as they were, unless the store shut in its commit. Then the next
-/// opening finds the tables as they were, or, of a legal register, all of them moved, if the disk
-/// has returned what was written.
+/// or column of a register of this version is missing. Of version 1 [`OpenFault::Taken`] comes
+/// where a table, an index or a view is named `period`, and then [`OpenFault::Damaged`] where the
+/// reader refuses the file of a live filing, or what it is read to isn't what the tables have of
+/// the filing, but for statuses that it leaves out and for days, or a row of a filing has a value
+/// of no form. A fault other than `Memory` and `Store` comes before anything is written
+/// (`ReadsOnly`). These two leave the tables as they were, unless the store shut in its commit.
+/// Then the next opening finds the tables as they were, or, of a legal register, all of them moved,
+/// if the disk has returned what was written.
 pub fn migrate<S: Alter>(conn: &mut Connection<S>, alloc: Global) -> Result<(), OpenFault>
     ensures commits { Commits (state S.Store conn.old) (state S.Store conn.new) result }
     ensures refused { IfErr result (λ fault. IsFailure fault
