@@ -6,8 +6,8 @@ ghost use Rattle.bor_program.specs.Splitting.{before_byte, behind_byte};
 /// The bytes before the first one that is this, and those behind it; all and none where there is
 /// none.
 pub fn split_at(byte: u8, bytes: &[u8]) -> (&[u8], &[u8])
-    ensures before_byte { result.0.now ≡ before_byte byte bytes.now }
-    ensures behind_byte { result.1.now ≡ behind_byte byte bytes.now }
+    ensures before { result.0.now ≡ before_byte byte bytes.now }
+    ensures behind { result.1.now ≡ behind_byte byte bytes.now }
 {
     match bytes.iter().position(|b| *b == byte) {
         Some(i) => (&bytes[..i], &bytes[i + 1..]),
