@@ -118,8 +118,7 @@ impl RawRequest {
 /// Reads one request: its head, and as many bytes behind it as the head says.
 ///
 /// The request follows from the bytes of the reader alone, in whatever pieces they come, and what
-/// stands behind the body has no part in it. Nothing is asked of the reader once the request is
-/// there, and at most 1,064,960 bytes are taken of it.
+/// stands behind the body has no part in it. At most 1,064,960 bytes are taken of the reader.
 ///
 /// # Errors
 ///
