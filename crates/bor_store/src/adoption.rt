@@ -109,7 +109,8 @@ pub(crate) fn has_all(schema: &Schema) -> bool
 /// The versions that the table `register` tells, a row each. A connection with a transaction open
 /// is refused.
 pub(crate) fn version_rows<S: Alter>(conn: &mut Connection<S>) -> Result<Vec<Row>, Error>
-    ensures asked { AnswersQuery version_text [] (state S.Store conn.old) (state S.Store conn.new) result }
+    ensures asked { AnswersQuery version_text [] (state S.Store conn.old) (state S.Store conn.new)
+        result }
     ensures versions { HasCleanDisk (state S.Store conn.new)
         → IfOk result (λ rows. AreVersions (state S.Store conn.old) rows.items) }
     ensures same { HasCleanDisk (state S.Store conn.new)

@@ -18,7 +18,8 @@ fn found_register<S: Alter>(
     conn: &mut Connection<S>,
     alloc: Global,
 ) -> Result<Option<RegisterRow>, ReadError>
-    ensures reads { ReadsIn S.Store conn.old conn.new result (λ r row. row ≡ Some (register_row r)) }
+    ensures reads { ReadsIn S.Store conn.old conn.new result (λ r row.
+        row ≡ Some (register_row r)) }
     ensures up { IfOk result (λ _. IsUp (state S.Store conn.new)) }
 {
     first_value(alloc, all_register(conn))

@@ -14,8 +14,8 @@ pub(crate) fn query<S: Alter>(
     params: &[ValueRef<'_>],
 ) -> Result<Vec<Row>, Error>
     requires { IsQuery sql.now }
-    ensures { AnswersQuery sql.now (bound params.now) (state S.Store conn.old) (state S.Store conn.new)
-        result }
+    ensures { AnswersQuery sql.now (bound params.now) (state S.Store conn.old)
+        (state S.Store conn.new) result }
 {
     if !conn.is_autocommit() {
         return Err(Error::SqliteFailure(ErrorCode::TransactionState));

@@ -46,7 +46,8 @@ pub struct Lodged {
 
 fn read(alloc: Global, bytes: &[u8]) -> Result<Vec<Statement>, LodgeFault>
     ensures few { IfOk result (λ statements. length statements.items ≤ statements_limit) }
-    ensures read { IsMadeAlone (λ statements. statements.items) result (as_read (reading bytes.now)) }
+    ensures read { IsMadeAlone (λ statements. statements.items) result
+        (as_read (reading bytes.now)) }
 {
     match read_file(alloc, bytes) {
         Ok(statements) => Ok(statements),

@@ -54,7 +54,8 @@ fn write_chains(
     date: Day,
     persons: &[PersonLine],
 ) -> Result<(), AllocError>
-    ensures { WritesBehind result out.old out.new (data_tokens (chains_data entity.now date persons.now)) }
+    ensures { WritesBehind result out.old out.new
+        (data_tokens (chains_data entity.now date persons.now)) }
 {
     out.begin_object()?;
     write_text(out, "agent", entity.agent.as_str())?;

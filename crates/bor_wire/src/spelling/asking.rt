@@ -39,7 +39,8 @@ fn node_named(alloc: Global, pairs: &[QueryPair]) -> Result<Node, WireFault>
 // The identifier that a query names.
 #[tactic(auto, unfolding(crate::specs::Spelling::Steps::identifier_by_steps))]
 fn identifier_named(alloc: Global, pairs: &[QueryPair]) -> Result<Identifier, WireFault>
-    ensures { FindsStated (λ identifier. identifier) result (identifier_by_steps (pair_texts pairs.now)) }
+    ensures { FindsStated (λ identifier. identifier) result
+        (identifier_by_steps (pair_texts pairs.now)) }
 {
     Ok(Identifier {
         scheme: text_named(alloc, pairs, Name::Scheme)?,

@@ -71,7 +71,8 @@ pub(crate) fn text_named(
 /// The day of this name's value.
 #[tactic(auto, unfolding(crate::specs::Spelling::Parts::once))]
 pub(crate) fn day_named(pairs: &[QueryPair], name: Name) -> Result<Day, WireFault>
-    ensures { FindsStated (λ day. day) result (named name (once day_of name (pair_texts pairs.now))) }
+    ensures { FindsStated (λ day. day) result
+        (named name (once day_of name (pair_texts pairs.now))) }
 {
     let Some(text) = only_value(pairs, name.as_str()) else {
         return Err(WireFault::Refused(Refusal::BadQuery(name)));

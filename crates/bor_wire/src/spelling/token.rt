@@ -24,7 +24,8 @@ fn without_spaces(bytes: &[u8]) -> &[u8]
 
 // The token that bytes are, or the refusal.
 fn fitting_token(alloc: Global, bytes: &[u8], why: Refusal) -> Result<Token, WireFault>
-    ensures { FindsStated (λ token. token) result (or_refuse why (part.text_in is_token bytes.now)) }
+    ensures { FindsStated (λ token. token) result
+        (or_refuse why (part.text_in is_token bytes.now)) }
 {
     let Ok(text) = str::from_utf8(bytes) else {
         return Err(WireFault::Refused(why));
@@ -38,7 +39,8 @@ fn fitting_token(alloc: Global, bytes: &[u8], why: Refusal) -> Result<Token, Wir
 // The token in the value of a field (RFC 6750, 2.1).
 #[tactic(auto, unfolding(crate::specs::Spelling::Parts::bearer_token))]
 fn bearer_token(alloc: Global, value: &[u8]) -> Result<Token, WireFault>
-    ensures { FindsStated (λ token. token) result (or_refuse NoToken (part.bearer_token value.now)) }
+    ensures { FindsStated (λ token. token) result
+        (or_refuse NoToken (part.bearer_token value.now)) }
 {
     if value.len() < 7 || !value[..7].eq_ignore_ascii_case(b"bearer ") {
         return Err(WireFault::Refused(Refusal::NoToken));
@@ -49,7 +51,8 @@ fn bearer_token(alloc: Global, value: &[u8]) -> Result<Token, WireFault>
 /// The token of whoever asks, from the one `Authorization` field (RFC 9110, 11.6.2).
 #[tactic(auto, unfolding(crate::specs::Spelling::Parts::token))]
 pub(crate) fn token_at(alloc: Global, raw: &RawRequest) -> Result<Token, WireFault>
-    ensures { FindsStated (λ token. token) result (or_refuse NoToken (part.token raw.now.parts.fields)) }
+    ensures { FindsStated (λ token. token) result
+        (or_refuse NoToken (part.token raw.now.parts.fields)) }
 {
     match raw.only(b"authorization") {
         None => Err(WireFault::Refused(Refusal::NoToken)),
@@ -59,7 +62,8 @@ pub(crate) fn token_at(alloc: Global, raw: &RawRequest) -> Result<Token, WireFau
 
 /// The token that an agent gets: the whole body.
 pub(crate) fn new_token(alloc: Global, body: &[u8]) -> Result<Token, WireFault>
-    ensures { FindsStated (λ token. token) result (named names.Token (part.text_in is_token body.now)) }
+    ensures { FindsStated (λ token. token) result
+        (named names.Token (part.text_in is_token body.now)) }
 {
     fitting_token(alloc, body, Refusal::BadQuery(Name::Token))
 }
