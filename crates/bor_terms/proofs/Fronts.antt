@@ -1,11 +1,15 @@
 -- Where the fronts of two texts differ, the texts are ordered as their fronts are.
-use Rattle.std.proofs.Common.{◌≡◌, ◌≢◌, ℕ, zero, suc, ◌+◌, ◌*◌, ◌^◌, ◌<◌, ◌≤◌, List, [], ◌∷◌, refl, ◌∙◌, sym, ap, lit<, arith, Ordering}
-use Rattle.std.specs.Ordering.{nat_cmp, ordering_then, ordering_reverse}
+use Rattle.std.proofs.Common.{◌%◌, ◌≡◌, ◌≢◌, ℕ, zero, suc, ◌+◌, ◌*◌, ◌^◌, ◌<◌, ◌≤◌, List, [], ◌∷◌, refl, ◌∙◌, sym, ap, lit<, arith, Ordering}
+use Rattle.std.specs.Prelude.{true}
+use Rattle.std.specs.Cmp.{nat_cmp_is}
+use Rattle.std.proofs.lemmas.Bool.{ltb-true}
+use Rattle.std.proofs.lemmas.Map.Text.{is_eq-slice_cmp}
+use Rattle.std.specs.Ordering.{nat_cmp, is_eq, ordering_then, ordering_reverse}
 use Rattle.std.specs.declared.cmp.Ordering.TheVariants.{Less, Equal, Greater}
 use Rattle.std.specs.Cmp.Lexicographic.{slice_cmp}
 use Rattle.std.proofs.Math.Nat.{one-le-pow}
 use Rattle.std.proofs.lemmas.Cmp.{ranked, nat_list_cmp_total}
-use Rattle.bor_terms.specs.Texts.{front_of, AreBytes}
+use Rattle.bor_terms.specs.Texts.{front_of, is_same, is_whole_front, AreBytes}
 
 -- the first so many bytes as digits
 abbrev digits : ℕ → List ℕ → ℕ
@@ -13,7 +17,13 @@ digits zero bs = 0
 digits (suc n) [] = 0
 digits (suc n) (b ∷ bs) = b * 256 ^ n + digits n bs
 
-front_digits : (bs : List ℕ) → front_of bs ≡ digits 8 bs
+-- how many bytes there are, or one more than n
+abbrev tag : ℕ → List ℕ → ℕ
+tag n [] = 0
+tag zero (b ∷ bs) = 1
+tag (suc n) (b ∷ bs) = suc (tag n bs)
+
+front_digits : (bs : List ℕ) → front_of bs ≡ digits 7 bs * 256 + tag 7 bs
 unfolding front_of
 front_digits [] = refl
 front_digits (a ∷ []) = omega arith
@@ -49,8 +59,63 @@ digits_order (suc n) (x ∷ xs) [] p q h = absurd (omega arith)
 digits_order (suc n) (x ∷ xs) (y ∷ ys) p q h =
     by_head n x y xs ys (nat_cmp x y) refl (digits_below n xs (λ k. p (suc k))) (digits_below n ys (λ k. q (suc k))) (digits_order n xs ys (λ k. p (suc k)) (λ k. q (suc k))) h
 
+tag_least : (n : ℕ) (bs : List ℕ) → tag n bs ≤ suc n
+tag_least n [] = omega arith
+tag_least zero (b ∷ bs) = omega arith
+tag_least (suc n) (b ∷ bs) = let rest : tag n bs ≤ suc n = tag_least n bs in omega arith
+
+-- two numbers of digits are the same where their heads and their tails are
+heads : (n x y : ℕ) (xs ys : List ℕ) → digits n xs < 256 ^ n → digits n ys < 256 ^ n → x * 256 ^ n + digits n xs ≡ y * 256 ^ n + digits n ys → (o : Ordering) → o ≡ nat_cmp x y → (x ≡ y) × (digits n xs ≡ digits n ys)
+heads n x y xs ys l m e Less c = let below : x < y = ranked x y Less c in absurd (grind (arith, one_more y x (256 ^ n) (digits n ys) (digits n xs)))
+heads n x y xs ys l m e Equal c = let same : x ≡ y = ranked x y Equal c in (same, grind arith)
+heads n x y xs ys l m e Greater c = let above : y < x = ranked x y Greater c in absurd (grind (arith, one_more x y (256 ^ n) (digits n xs) (digits n ys)))
+
+heads_of : (n x y : ℕ) (xs ys : List ℕ) → AreBytes (x ∷ xs) → AreBytes (y ∷ ys) → digits (suc n) (x ∷ xs) ≡ digits (suc n) (y ∷ ys) → (x ≡ y) × (digits n xs ≡ digits n ys)
+heads_of n x y xs ys p q e = heads n x y xs ys (digits_below n xs (λ k. p (suc k))) (digits_below n ys (λ k. q (suc k))) e (nat_cmp x y) refl
+
+-- of texts with the same digits the shorter one stands first
+tied : (n : ℕ) (a b : List ℕ) → AreBytes a → AreBytes b → digits n a ≡ digits n b → tag n a < tag n b → slice_cmp nat_cmp a b ≡ Less
+tied n [] [] p q e h = absurd (omega arith)
+tied n [] (y ∷ ys) p q e h = refl
+tied zero (x ∷ xs) [] p q e h = absurd (omega arith)
+tied zero (x ∷ xs) (y ∷ ys) p q e h = absurd (omega arith)
+tied (suc n) (x ∷ xs) [] p q e h = absurd (omega arith)
+tied (suc n) (x ∷ xs) (y ∷ ys) p q e h =
+    let both = heads_of n x y xs ys p q e in
+    let rest = tied n xs ys (λ k. p (suc k)) (λ k. q (suc k)) both.1 (omega arith) in
+    let equal : nat_cmp x y ≡ Equal = sym (nat_cmp_is x y Equal both.0) in
+    rw (equal) rest
+
+short_same : (n : ℕ) (a b : List ℕ) → AreBytes a → AreBytes b → digits n a ≡ digits n b → tag n a ≡ tag n b → tag n a ≤ n → a ≡ b
+short_same n [] [] p q e t h = refl
+short_same zero [] (y ∷ ys) p q e t h = absurd (omega arith)
+short_same (suc n) [] (y ∷ ys) p q e t h = absurd (omega arith)
+short_same zero (x ∷ xs) b p q e t h = absurd (omega arith)
+short_same (suc n) (x ∷ xs) [] p q e t h = absurd (omega arith)
+short_same (suc n) (x ∷ xs) (y ∷ ys) p q e t h =
+    let both = heads_of n x y xs ys p q e in
+    let rest = short_same n xs ys (λ k. p (suc k)) (λ k. q (suc k)) both.1 (omega arith) (omega arith) in
+    cc
+
+below_by : (a b : List ℕ) (o : Ordering) → o ≡ nat_cmp (digits 7 a) (digits 7 b) → AreBytes a → AreBytes b → front_of a < front_of b → slice_cmp nat_cmp a b ≡ Less
+below_by a b Less e p q h = digits_order 7 a b p q (ranked (digits 7 a) (digits 7 b) Less e)
+below_by a b Equal e p q h =
+    let same : digits 7 a ≡ digits 7 b = ranked (digits 7 a) (digits 7 b) Equal e in
+    tied 7 a b p q same (omega (arith, front_digits a, front_digits b))
+below_by a b Greater e p q h =
+    let above : digits 7 b < digits 7 a = ranked (digits 7 a) (digits 7 b) Greater e in
+    absurd (omega (arith, front_digits a, front_digits b, tag_least 7 a, tag_least 7 b))
+
 front_below : (a b : List ℕ) → AreBytes a → AreBytes b → front_of a < front_of b → slice_cmp nat_cmp a b ≡ Less
-front_below a b p q h = digits_order 8 a b p q (omega (arith, front_digits a, front_digits b))
+front_below a b p q h = below_by a b (nat_cmp (digits 7 a) (digits 7 b)) refl p q h
+
+-- texts of one front that is whole are the same
+pub whole_same : (a b : List ℕ) (x : ℕ) → x ≡ front_of a → x ≡ front_of b → AreBytes a → AreBytes b → is_whole_front x ≡ true → a ≡ b
+whole_same a b x i j p q w =
+    let same : digits 7 a * 256 + tag 7 a ≡ digits 7 b * 256 + tag 7 b = sym (front_digits a) ∙ sym i ∙ j ∙ front_digits b in
+    let low : x % 256 < 8 = ltb-true (x % 256) 8 w in
+    let short : tag 7 a ≤ 7 = omega (arith, i, low, front_digits a, tag_least 7 a) in
+    short_same 7 a b p q (omega (arith, same, tag_least 7 a, tag_least 7 b)) (omega (arith, same, tag_least 7 a, tag_least 7 b)) short
 
 by_front : (a b : List ℕ) (o : Ordering) → AreBytes a → AreBytes b → front_of a ≢ front_of b → o ≡ nat_cmp (front_of a) (front_of b) → o ≡ slice_cmp nat_cmp a b
 by_front a b Less p q n e = sym (front_below a b p q (ranked (front_of a) (front_of b) Less e))
@@ -62,3 +127,14 @@ pub front_order : (a b : List ℕ) (x y : ℕ) (o : Ordering) → x ≡ front_of
 front_order a b x y o i j p q n e =
     let across : o ≡ nat_cmp (front_of a) (front_of b) = cc in
     by_front a b o p q (λ same. n (i ∙ same ∙ sym j)) across
+
+level : (a : List ℕ) → slice_cmp nat_cmp a a ≡ Equal
+level [] = refl
+level (x ∷ xs) = let equal : nat_cmp x x ≡ Equal = sym (nat_cmp_is x x Equal refl) in rw (equal) (level xs)
+
+-- x and y are the fronts of two texts, of which the first is whole
+pub whole_tie : (a b : List ℕ) (x y : ℕ) → x ≡ front_of a → y ≡ front_of b → AreBytes a → AreBytes b → x ≡ y → is_whole_front x ≡ true → Equal ≡ slice_cmp nat_cmp a b
+whole_tie a b x y i j p q e w = sym (ap (slice_cmp nat_cmp a) (sym (whole_same a b x i (e ∙ j) p q w)) ∙ level a)
+
+pub whole_equal : (a b : List ℕ) (x y : ℕ) → x ≡ front_of a → y ≡ front_of b → AreBytes a → AreBytes b → x ≡ y → is_whole_front x ≡ true → true ≡ is_same a b
+whole_equal a b x y i j p q e w = ap is_eq (whole_tie a b x y i j p q e w) ∙ is_eq-slice_cmp a b

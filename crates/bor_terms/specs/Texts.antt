@@ -1,7 +1,7 @@
 -- The four texts of the register (this register's profile): which bytes each may have and how many,
 -- and how two texts compare.
 use Rattle.std.specs.Prelude.{ℕ, ◌<◌, List, length, slice_index, Bool, not, ◌&&◌, ◌||◌, ◌==◌}
-use Rattle.std.specs.Prelude.{nat_le}
+use Rattle.std.specs.Prelude.{nat_le, nat_lt, min, ◌%◌, [], ◌∷◌}
 use Rattle.std.specs.List.{list_all}
 use Rattle.std.specs.Int.{w64, from_be_bytes}
 use Rattle.std.specs.Str.{bytes_eq, is_utf8}
@@ -62,9 +62,20 @@ is_token bytes = has_length 16 64 bytes && list_all is_visible_byte bytes
 abbrev pub AreBytes : List ℕ → Type 0
 AreBytes bytes = (k : ℕ) → slice_index bytes k < 256
 
--- the first eight bytes as a number, the first of them the highest; a byte that is missing is 0
+-- how many bytes a text has, or 8 where they are more than seven
+abbrev pub short_length : List ℕ → ℕ
+short_length bytes = min (length bytes) 8
+
+-- the first seven bytes and then the length as one number, the first byte the highest; a byte that
+-- is missing is 0
 unfoldable pub front_of : List ℕ → ℕ
-front_of bytes = from_be_bytes w64 bytes
+front_of bytes = from_be_bytes w64 (
+    slice_index bytes 0 ∷ slice_index bytes 1 ∷ slice_index bytes 2 ∷ slice_index bytes 3
+    ∷ slice_index bytes 4 ∷ slice_index bytes 5 ∷ slice_index bytes 6 ∷ short_length bytes ∷ [])
+
+-- a text of at most seven bytes, by its front
+abbrev pub is_whole_front : ℕ → Bool
+is_whole_front front = nat_lt (front % 256) 8
 
 -- two texts are the same where their bytes are
 abbrev pub is_same : List ℕ → List ℕ → Bool

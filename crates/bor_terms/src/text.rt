@@ -4,7 +4,7 @@ ghost use Rattle.std.specs.Prelude.{◌≡◌, ℕ, List, Bool, true, false, IsO
 ghost use Rattle.std.specs.Ordering.{nat_cmp};
 ghost use Rattle.std.specs.Cmp.{partial_equiv_from_equiv};
 ghost use Rattle.std.specs.Cmp.Lexicographic.{slice_cmp, nat_list_eq_equiv, nat_list_cmp_total, texts_ties, texts_po};
-ghost use Rattle.bor_terms.specs.Texts.{is_same, front_of, AreBytes};
+ghost use Rattle.bor_terms.specs.Texts.{is_same, is_whole_front, short_length, front_of, AreBytes};
 
 use std::alloc::{AllocError, Global};
 use std::cmp::Ordering;
@@ -31,8 +31,8 @@ pub trait Form {
 /// a text share its bytes.
 #[derive(Drop)]
 pub struct Text<F: Form> {
-    // The first eight bytes as a number. Two texts of different numbers are compared by these
-    // alone.
+    // The first seven bytes and the length, as a number. Texts of different numbers are compared by
+    // these alone, and those of at most seven bytes too.
     front: u64,
     text: Rc<String>,
     form: PhantomData<F>,
@@ -117,7 +117,7 @@ impl<F: Form> PartialEq for Text<F> {
     ghost laws = { partial_equiv_from_equiv nat_list_eq_equiv };
 
     fn eq(&self, other: &Text<F>) -> bool {
-        self.front == other.front && self.text == other.text
+        self.front == other.front && (is_whole_front(self.front) || self.text == other.text)
     }
 }
 
@@ -148,11 +148,15 @@ impl<F: Form> Ord for Text<F> {
         if self.front != other.front {
             return self.front.cmp(&other.front);
         }
+        if is_whole_front(self.front) {
+            return Ordering::Equal;
+        }
         self.text.cmp(&other.text)
     }
 }
 
-// The first eight bytes as a number, the first of them the highest; a byte that is missing is 0.
+// The first seven bytes and the length as a number, the first byte the highest; a byte that is
+// missing is 0.
 fn front_of(bytes: &[u8]) -> u64
     ensures front { result ≡ front_of bytes.now }
     ensures bytes { AreBytes bytes.now }
@@ -165,8 +169,22 @@ fn front_of(bytes: &[u8]) -> u64
         byte_at(bytes, 4),
         byte_at(bytes, 5),
         byte_at(bytes, 6),
-        byte_at(bytes, 7),
+        short_length(bytes),
     ])
+}
+
+// How many bytes there are, or 8 where they are more than seven.
+fn short_length(bytes: &[u8]) -> u8
+    ensures { result ≡ short_length bytes.now }
+{
+    bytes.len().min(8) as u8
+}
+
+// Whether a front is that of a text of at most seven bytes, which it tells whole.
+fn is_whole_front(front: u64) -> bool
+    ensures { result ≡ is_whole_front front }
+{
+    front % 256 < 8
 }
 
 fn byte_at(bytes: &[u8], place: usize) -> u8
