@@ -1,7 +1,6 @@
 -- Marks that are given, unless one is there.
-use Rattle.std.proofs.Common.{◌≤◌, Option, List, length, ap, arith, length-append}
+use Rattle.std.proofs.Common.{◌≤◌, Option, List}
 use Rattle.bor_records.specs.Links.Answers.{AreSame}
-use Rattle.bor_records.specs.Links.Growth.{Grown}
 use Rattle.bor_records.specs.Links.Shown.{Shown}
 use Rattle.bor_records.specs.declared.links.node.Node.{Node}
 use Rattle.bor_records.proofs.OnLinks.Growth.{grown_like}
@@ -10,9 +9,6 @@ use Rattle.bor_chains.specs.declared.trail.Step.{Step}
 use Rattle.bor_chains.specs.declared.trail.Trail.{Trail}
 use Rattle.bor_chains.specs.Marks.{IsOneOf, IsSameAs}
 use Rattle.bor_chains.specs.Trail.{GivesMarks}
-
-pub grown_longer : {X : Type 0} (P : X → Type 0) (a b : List X) → Grown P a b → length a ≤ length b
-grown_longer P a b g = let z = ap (λ xs. length xs) g.begins in omega (arith, z, length-append a g.rest)
 
 -- all that are the same as a node
 pub gives_class : (s : Shown) (n : Node) (mark : Mark) (nodes : List Node) (o : Option Step) (a b : Trail) → AreSame s n nodes → GivesMarks (IsOneOf nodes mark) o a b → GivesMarks (IsSameAs s n mark) o a b

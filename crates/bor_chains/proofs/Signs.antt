@@ -15,7 +15,7 @@ use Rattle.bor_records.specs.declared.links.sign.Sign.{Sign}
 use Rattle.bor_chains.specs.Tables.{items_of}
 use Rattle.bor_records.specs.Links.Signs.{sign_cmp, by_record, by_identifier, signs}
 use Rattle.bor_chains.specs.Likeness.{Stays, IsUnder, AreUnder}
-use Rattle.bor_records.proofs.OnLinks.Found.{none, cases}
+use Rattle.bor_records.proofs.OnLinks.Found.{cases}
 use Rattle.bor_records.proofs.OnLinks.Exact.{exact_sign}
 
 abbrev pub under : BTreeMap Sign (Vec ℕ Global) → Sign → List ℕ
@@ -50,9 +50,6 @@ put_there more key old new place is at =
 pub identifiers_more : (ids : List Identifier) (i : ℕ) (d : Identifier) → i < length ids → map by_identifier (take (i + 1) ids) ≡ map by_identifier (take i ids) ++ by_identifier (get_or ids i d) ∷ []
 identifiers_more ids i d lt = ap (λ (xs : List Identifier). map by_identifier xs) (take_more ids i d lt) ∙ map-append by_identifier (take i ids) (get_or ids i d ∷ [])
 
-pub under_none : (place : ℕ) (places : Sign → List ℕ) → IsUnder [] place places
-under_none place places k h = absurd (none k h)
-
 pub under_more : (ids : List Identifier) (i : ℕ) (d : Identifier) (key : Sign) (place : ℕ) (was now : Sign → List ℕ) → i < length ids → key ≡ by_identifier (get_or ids i d) → IsUnder (map by_identifier (take i ids)) place was
     → Stays was now → Contains (now key) place → IsUnder (map by_identifier (take (i + 1) ids)) place now
 under_more ids i d key place was now lt is before stays at k h =
@@ -68,9 +65,6 @@ under_first x key place was now is at stays rest k h = elim (cases (by_record x.
 ]
 
 -- ---- a node more
-
-pub nodes_none : (nodes : List OpenNode) (places : Sign → List ℕ) → AreUnder 0 nodes places
-nodes_none nodes places i x lt at = absurd (omega (arith, lt))
 
 pub nodes_more : (nodes : List OpenNode) (n : ℕ) (one : OpenNode) (was now : Sign → List ℕ) → n < length nodes → one ≡ get_or nodes n one → AreUnder n nodes was → Stays was now → IsUnder (signs one) n now → AreUnder (n + 1) nodes now
 nodes_more nodes n one was now lt is before stays these i x below at k h = elim (split i below) [

@@ -9,7 +9,7 @@ use Rattle.bor_records.proofs.OnLinks.Found.{none}
 use Rattle.bor_chains.specs.declared.trail.Step.{Step}
 use Rattle.bor_chains.specs.Trail.{ReadsOff}
 use Rattle.bor_chains.specs.Branches.{lower_step, step_down, LeadsDown, IsCount, AreCounts}
-use Rattle.bor_chains.proofs.Trails.{got_cases, got_there}
+use Rattle.bor_chains.proofs.Trails.{got_cases}
 
 -- ---- one step
 
@@ -118,14 +118,6 @@ count_step steps n step count counts d at c = (few, by)
         let same = one_step steps n r.0 step r.1 (down_is steps n step d).0 in
         let rest = (c.each step.below count at).1 ls (subst (λ (x : Step). ReadsOff steps x.below ls) same r.4) in
         omega arith
-
--- one that is counted is there
-pub count_there : (steps : List (Option Step)) (n : ℕ) (step : Step) (counts : List ℕ) → step_down steps n ≡ Some step → slice_get counts step.below ≡ None → AreCounts steps n counts → ⊥
-count_there steps n step counts d gone c =
-    let lt = (down_is steps n step d).1 in
-    let long = c.long in
-    let g = got_there counts step.below (omega arith) in
-    let no : None ≡ Some g.0 = sym gone ∙ g.1 in cc
 
 pub count_end : (steps : List (Option Step)) (n : ℕ) → step_down steps n ≡ None → (0 ≤ n) × IsCount steps n 0
 count_end steps n d = (omega arith, by)

@@ -64,9 +64,6 @@ longer_then a b c f g = record {
 pub still_marked : (a b : Trail) → IsLonger a b → (m : Marked) → Contains a.marks m → Contains b.marks m
 still_marked a b l m h = subst (λ (xs : List Marked). Contains xs m) (sym l.begins) (Contains-append_left a.marks l.rest m h)
 
-pub still_at : (a b : Trail) → IsLonger a b → (i : ℕ) (m : Marked) → slice_get a.marks i ≡ Some m → slice_get b.marks i ≡ Some m
-still_at a b l i m h = ap (λ (xs : List Marked). slice_get xs i) l.begins ∙ got_left a.marks l.rest i m h
-
 pub still_reads : (a b : Trail) → IsLonger a b → (i : ℕ) (ls : List Link) → ReadsOff a.steps.items i ls → ReadsOff b.steps.items i ls
 still_reads a b l i [] h = ap (λ (xs : List (Option Step)). slice_get xs i) l.steps_begin ∙ got_left a.steps.items l.more i None h
 still_reads a b l i (k ∷ ks) h =

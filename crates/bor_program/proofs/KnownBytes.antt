@@ -1,9 +1,9 @@
 -- The known bytes that a loop of reads has taken, and that a loop of writes has given.
-use Rattle.std.proofs.Common.{◌≡◌, ◌∙◌, ◌≤◌, ◌<◌, ◌-◌, ℕ, List, [], ◌++◌, Option, Some, None, IfSome, Result, Ok, Err, ap, arith, sym, length, take, drop, append-nil, append_assoc, take-append-drop, subst, lit≤}
+use Rattle.std.proofs.Common.{◌≡◌, ◌∙◌, ◌≤◌, ◌<◌, ◌-◌, ℕ, List, [], ◌++◌, Option, Some, None, IfSome, Result, Ok, Err, ap, arith, sym, length, take, append-nil, subst, lit≤}
 use Rattle.std.specs.Io.KnownBytes.{Appends, Consumes, IsAtEnd, Keeps, ReadConsumes}
-use Rattle.std.proofs.KnownBytes.{Appends-trans, Consumes-trans}
-use Rattle.std.proofs.lemmas.List.{length-drop, take-append-le, take_all}
-use Rattle.bor_program.specs.Streams.{AppendsPart, TakesAtMostPart, TakesPart, part_read}
+use Rattle.std.proofs.KnownBytes.{Consumes-trans}
+use Rattle.std.proofs.lemmas.List.{take-append-le, take_all}
+use Rattle.bor_program.specs.Streams.{TakesAtMostPart, TakesPart, part_read}
 
 -- what was read is what is to be read of a file, and no more was taken
 pub record IsPartOf (before after : Option (List ℕ)) (read : List ℕ) : Type 0 where
@@ -49,25 +49,6 @@ took_none (Some xs) (Some ys) h = ([], lit≤ tt, sym h)
 abbrev pub IsWritten : Option (List ℕ) → Option (List ℕ) → List ℕ → List ℕ → Type 0
 IsWritten before after bytes rest = (front : List ℕ) × (bytes ≡ front ++ rest) × Appends before after front
 
--- a write took some of what was left
-pub written_more : (before middle after : Option (List ℕ)) (bytes rest : List ℕ) (count : ℕ) → IsWritten before middle bytes rest
-    → Appends middle after (take count rest) → IsWritten before after bytes (drop count rest)
-written_more before middle after bytes rest count h e =
-    let split : bytes ≡ (h.0 ++ take count rest) ++ drop count rest =
-    h.1 ∙ ap (λ l. h.0 ++ l) (sym (take-append-drop count rest)) ∙ sym (append_assoc h.0 (take count rest) (drop count rest)) in
-    (h.0 ++ take count rest, split, Appends-trans before middle after h.0 (take count rest) h.2 e)
-
--- what is written first, where the rest wasn't tried
-pub part_first : (before after : Option (List ℕ)) (xs ys : List ℕ) → AppendsPart before after xs → AppendsPart before after (xs ++ ys)
-part_first before after xs ys h =
-    (h.0, h.1 ++ ys, ap (λ l. l ++ ys) h.2 ∙ append_assoc h.0 h.1 ys, h.3)
-
--- what is written next
-pub part_next : (before middle after : Option (List ℕ)) (xs ys : List ℕ) → Appends before middle xs → AppendsPart middle after ys
-    → AppendsPart before after (xs ++ ys)
-part_next before middle after xs ys e h =
-    (xs ++ h.0, h.1, ap (λ l. xs ++ l) h.2 ∙ sym (append_assoc xs h.0 h.1), Appends-trans before middle after xs h.0 e h.3)
-
 -- a read into some room that gave nothing found the end
 pub read_nothing : {E : Type 0} (before after : Option (List ℕ)) (result : Result ℕ E) (count : ℕ) (buf : List ℕ)
     → ReadConsumes before after result buf → result ≡ Ok count → count ≡ 0 → 0 < length buf → Consumes before after [] × IsAtEnd after
@@ -75,9 +56,3 @@ read_nothing before after (Ok n) count buf h e none room =
     let zero : n ≡ 0 = cc in
     (subst (λ k. Consumes before after (take k buf)) zero h.0, h.1 zero room)
 read_nothing before after (Err error) count buf h e none room = cc
-
--- a list from a place on is what is left of it there
-pub rest_from : (place : ℕ) (xs : List ℕ) → take (length xs - place) (drop place xs) ≡ drop place xs
-rest_from place xs =
-    let e : length (drop place xs) ≡ length xs - place = length-drop place xs in
-    take_all (length xs - place) (drop place xs) (omega arith)

@@ -6,7 +6,7 @@ use Rattle.bor_register.specs.declared.fault.StoreFault.{StoreFault}
 use Rattle.bor_register.specs.declared.fault.StoreFault.TheVariants as fault
 use Rattle.bor_program.specs.declared.failure.Failure.{Failure}
 use Rattle.bor_program.specs.declared.failure.Failure.TheVariants.{Unreadable, NoRegister, OtherVersion, Taken, Registered, NoToken, Memory, Store, Unlistening, Unwritable}
-use Rattle.bor_program.specs.Failures.{IsMetIn, IsMetListening, IsMetOnKeep, IsOpeningOf, IsWantOfMemory, LeavesOutput, failure_line, failure_of}
+use Rattle.bor_program.specs.Failures.{IsMetIn, IsMetOnKeep, IsOpeningOf, LeavesOutput, failure_line, failure_of}
 use Rattle.bor_program.specs.Courses.{Course, IsOnlyDeed}
 use Rattle.bor_program.specs.Deeds.{Deed, Fails}
 use Rattle.bor_program.specs.Performing.{FailsToOpen}
@@ -52,35 +52,6 @@ fails_to_open files path streams failure three kept fails h line =
     record { status_is = three; kept = kept; failure = failure; fails = fails; cause = h; line = line }
 
 -- ---- failures of a server before its first connection
-
-pub met_unlistening : (known : Option (List ℕ)) → IsMetListening known known Unlistening
-met_unlistening known = record { cause = tt; output = keeps_same known }
-
-pub met_wanting : (known : Option (List ℕ)) (failure : Failure) → IsWantOfMemory failure → IsMetListening known known failure
-met_wanting known Memory e = record { cause = tt; output = keeps_same known }
-met_wanting known Unwritable e = cc
-met_wanting known (Unreadable source) e = cc
-met_wanting known (NoRegister path) e = cc
-met_wanting known (OtherVersion path version) e = cc
-met_wanting known (Taken path) e = cc
-met_wanting known (Registered path) e = cc
-met_wanting known (NoToken file) e = cc
-met_wanting known Store e = cc
-met_wanting known Unlistening e = cc
-
-pub met_closed : (before after : Option (List ℕ)) (failure : Failure) → failure ≡ Unwritable → IsMetListening before after failure
-met_closed before after Unwritable e = record { cause = tt; output = tt }
-met_closed before after Memory e = cc
-met_closed before after (Unreadable source) e = cc
-met_closed before after (NoRegister path) e = cc
-met_closed before after (OtherVersion path version) e = cc
-met_closed before after (Taken path) e = cc
-met_closed before after (Registered path) e = cc
-met_closed before after (NoToken file) e = cc
-met_closed before after Store e = cc
-met_closed before after Unlistening e = cc
-
--- ---- texts that were cut off
 
 -- a text that was written ends with no failure
 pub no_failure : (refused : Bool) → 3 ≡ report_status refused → ⊥

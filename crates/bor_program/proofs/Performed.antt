@@ -19,7 +19,7 @@ use Rattle.bor_words.specs.declared.serve.Serve.{Serve as Asked}
 use Rattle.bor_words.specs.declared.source.Source.{Source}
 use Rattle.bor_words.specs.Asked.{EntersCheck, IsAsked, IsCommand, name_of}
 use Rattle.bor_words.specs.Words.{Entered, entered_by, file_at}
-use Rattle.bor_program.specs.Performing.{Checks, EndsSettingUp, Exchanges, Inits, InitsOnceTold, IsDoneOrFailed, Performs, Serves, PrintsRefusal, System, migrated}
+use Rattle.bor_program.specs.Performing.{Checks, EndsSettingUp, Exchanges, InitsOnceTold, IsDoneOrFailed, Performs, Serves, PrintsRefusal, System, migrated}
 use Rattle.bor_program.specs.declared.host.Origin.{Origin}
 use Rattle.bor_program.specs.declared.host.Origin.TheVariants.{Found, New}
 use Rattle.bor_program.specs.declared.registrar.Exchanging.{Exchanging}
@@ -71,38 +71,6 @@ untaken system files (Exchange asked) words input rest streams ok h unasked p = 
 untaken system files (Serve asked) words input rest streams ok h unasked p = p.0
 untaken system files (Report asked) words input rest streams ok h unasked p = p.0
 untaken system files (Migrate asked) words input rest streams ok h unasked p = p.0
-
-unheard_of : (path : Bor Words) (origin : Origin) (errors told : Known) (status : ℕ) → status ≤ 1 → EndsSettingUp path origin errors told status → Keeps errors told
-unheard_of path Found errors told status le h = absurd (omega (arith, le, h.0))
-unheard_of path New errors told status le h = h.1
-
-inits_unheard : {M K W : Type 0} (meaning : Meaning K Register W StoreFault) (files : Course M (Deed K)) (path : Bor Words) (registrar : List ℕ) (day : ℤ) (streams : Streams) → streams.status ≤ 1
-    → Inits meaning files path registrar day streams → Keeps streams.errors streams.told
-inits_unheard meaning files path registrar day streams le p = elim p.done [
-  | inl h ↦ absurd (omega (arith, le, h.status_is))
-  | inr h ↦ unheard_of path h.1 streams.errors streams.told streams.status le h.3
-]
-
-pub unheard : {M K Left : Type 0} (system : System K Left) (files : Course M (Deed K)) (asked : Command) (input rest : Known) (streams : Streams) → streams.status ≤ 1
-    → Performs system files asked input rest streams → Keeps streams.errors streams.told
-unheard system files (Check source) input rest streams le p = p.1.silent le
-unheard system files (Init asked) input rest streams le p = elim p.1 [
-  | inl h ↦ absurd (omega (arith, le, h.status_is))
-  | inr (_, _, h) ↦ inits_unheard _ _ _ _ _ _ le h
-]
-unheard system files (Exchange asked) input rest streams le p = elim p.1 [
-  | inl h ↦ absurd (omega (arith, le, h.status_is))
-  | inr h ↦ h.2.silent le
-]
-unheard system files (Serve asked) input rest streams le p = elim p.1 [
-  | inl h ↦ absurd (omega (arith, le, h.status_is))
-  | inr (_, _, _, inl h) ↦ absurd (omega (arith, le, h.1.status_is))
-  | inr (_, _, _, inr h) ↦ h.silent
-]
-unheard system files (Report asked) input rest streams le p = p.1.silent le
-unheard system files (Migrate asked) input rest streams le p = p.1.silent le
-
--- ---- statuses
 
 refuses : (refused : Bool) → 1 ≡ report_status refused → IsTrue refused
 refuses true e = refl

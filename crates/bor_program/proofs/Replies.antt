@@ -46,17 +46,8 @@ part_begun before middle after bytes part rest h e =
     h.1 ∙ ap (λ l. h.0 ++ (l ++ rest)) e.2 ∙ ap (λ l. h.0 ++ l) (append_assoc e.0 e.1 rest) ∙ sym (append_assoc h.0 e.0 (e.1 ++ rest)) in
     (h.0 ++ e.0, e.1 ++ rest, split, Appends-trans before middle after h.0 e.0 h.2 e.3)
 
--- nothing is left
-pub all_written : (before after : Option (List ℕ)) (bytes : List ℕ) → IsWritten before after bytes [] → Appends before after bytes
-all_written before after bytes h = subst (Appends before after) (sym (h.1 ∙ append-nil h.0)) h.2
-
 pub part_of_all : (before after : Option (List ℕ)) (bytes : List ℕ) → Appends before after bytes → AppendsPart before after bytes
 part_of_all before after bytes h = (bytes, [], sym (append-nil bytes), h)
-
-pub none_written : (before : Option (List ℕ)) (bytes : List ℕ) → Appends before before [] → IsWritten before before bytes bytes
-none_written before bytes h = ([], refl, h)
-
--- ---- what is read up to a limit
 
 pub read_whole : (known : Option (List ℕ)) (limit : ℕ) (items before : List ℕ) → before ≡ []
     → IfSome (option_map (take limit) known) (λ bytes. items ≡ before ++ bytes) → IfSome known (λ bytes. items ≡ take limit bytes)

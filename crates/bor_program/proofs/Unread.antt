@@ -20,10 +20,6 @@ joined_fronts [] last xs ys h k = subst (λ (bytes : List ℕ). AreFronts last (
 joined_fronts (text ∷ first) last xs ys h k =
     (h.0, h.1, h.2 ++ ys, h.3, ap (λ l. l ++ ys) h.4 ∙ append_assoc h.0 h.2 ys, joined_fronts first last h.2 ys h.5 k)
 
--- before any file nothing is told
-pub told_none : (known : Option (List ℕ)) → TellsUnread [] known known
-told_none known = ([], refl, kept_none known known (keeps_same known))
-
 told_then : (files more : List (Bor Text)) (before middle after : Option (List ℕ)) (lines : List ℕ) → TellsUnread files before middle
     → AreFronts (map unread_line more) lines → Appends middle after lines → TellsUnread (files ++ more) before after
 told_then files more before middle after lines h fronts e =

@@ -163,9 +163,6 @@ Pairs = List (Bor (List ℕ) × Bor Row)
 abbrev plain : Pairs → Found
 plain es = map (λ e. (e.0.now, e.1.now)) es
 
-abbrev keys_read : Pairs → List (List ℕ)
-keys_read es = map (λ e. e.0.now) es
-
 at_key-plain : (q : List ℕ) (es : Pairs) → at_key q (plain es) ≡ option_map row_at (lookup (λ (k : Bor (List ℕ)). is_eq (slice_cmp nat_cmp q k.now)) es)
 at_key-plain q [] = refl
 at_key-plain q (e ∷ es) = at (is_eq (slice_cmp nat_cmp q e.0.now)) (at_key-plain q es)
@@ -203,9 +200,6 @@ snapshot-found declaration day rows found s h =
 
 abbrev rec_of : Entry → List ℕ
 rec_of e = e.statement.rec
-
-abbrev entry_at : List ℕ → ℤ → List Row → List ℕ → Option Entry
-entry_at declaration day rows q = option_map entry_of (open_row declaration day rows q)
 
 -- what holds of each of a list, item by item
 all_held : {X : Type 0} (P : X → Type 0) (xs : List X) → ((x : X) → Contains xs x → P x) → AllByRecursion P xs

@@ -1,16 +1,15 @@
 -- A file's statements one by one: the laws that a loop over them needs.
-use Rattle.std.proofs.Common.{◌≡◌, ℕ, ◌+◌, ℤ, Bool, true, false, List, [], ◌∷◌, ◌++◌, map, Option, Some, None, option_map, Result, Ok, Err, refl, sym, ap, ◌∙◌, append_assoc, if◌then◌else◌}
+use Rattle.std.proofs.Common.{◌≡◌, ℕ, ◌+◌, ℤ, Bool, true, false, List, [], ◌∷◌, ◌++◌, map, Option, Some, None, option_map, Result, Ok, Err, refl, ap, ◌∙◌, if◌then◌else◌}
 use Rattle.std.specs.List.{filter, last_or}
 use Rattle.std.specs.Prelude.{◌||◌}
 use Rattle.std.specs.Option.{option_or}
-use Rattle.std.proofs.lemmas.List.{append-nil, map-append}
 use Rattle.std.proofs.lemmas.List.Elements.{filter-append}
 use Rattle.std.proofs.lemmas.List.Folds.{list_any-append}
 use Rattle.bods_read.specs.declared.statement.Statement.{Statement}
 use Rattle.bods_read.specs.declared.statement.Status.{Status}
 use Rattle.bor_records.specs.declared.fault.RecordFault.{RecordFault}
 use Rattle.bor_records.specs.Admission.{Live, is_of, known_of, last_of, admitted, refusals, settled_status, unless_refused}
-use Rattle.bor_records.specs.Settling.{Refusal, statement_twice, by_record, PlacedRefusal, has_id, verdict, as_settled, as_live, ahead, settled_then, settled_from, settled}
+use Rattle.bor_records.specs.Settling.{Refusal, statement_twice, by_record, PlacedRefusal, has_id, verdict}
 use Rattle.bor_records.proofs.Lists.{last_or-append}
 
 -- ---- one live statement more
@@ -56,45 +55,3 @@ verdict_is live s due = at (has_id s.id live) (refusals (last_of s.declaration s
 abbrev pub behind : List Statement → Result (List Statement) PlacedRefusal → Result (List Statement) PlacedRefusal
 behind done (Ok statements) = Ok (done ++ statements)
 behind done (Err refusal) = Err refusal
-
--- what is live once these are settled
-abbrev pub and_settled : List Live → ℤ → List Statement → List Live
-and_settled live due done = live ++ map (as_live due) done
-
-pub settled_start : (live : List Live) (due : ℤ) (statements : List Statement) → behind [] (settled_from 1 (and_settled live due []) due statements) ≡ settled live due statements
-settled_start live due statements = ap (λ ls. behind [] (settled_from 1 ls due statements)) (append-nil live) ∙ at (settled_from 1 live due statements)
-  where
-    at : (r : Result (List Statement) PlacedRefusal) → behind [] r ≡ r
-    at (Ok ss) = refl
-    at (Err refusal) = refl
-
--- one statement more is settled
-pub settled_more : (place : ℕ) (live : List Live) (due : ℤ) (done : List Statement) (s : Statement) (statements : List Statement) (status : Status)
-    → verdict (and_settled live due done) s due ≡ Ok status
-    → behind done (settled_from place (and_settled live due done) due (s ∷ statements))
-    ≡ behind (done ++ as_settled status s ∷ []) (settled_from (place + 1) (and_settled live due (done ++ as_settled status s ∷ [])) due statements)
-settled_more place live due done s statements status e =
-    ap (λ v. behind done (settled_then place s v rest)) e
-    ∙ at (rest (as_settled status s))
-    ∙ ap (λ ls. behind (done ++ as_settled status s ∷ []) (settled_from (place + 1) ls due statements)) grown
-  where
-    rest : Statement → Result (List Statement) PlacedRefusal
-    rest t = settled_from (place + 1) (and_settled live due done ++ as_live due t ∷ []) due statements
-
-    at : (r : Result (List Statement) PlacedRefusal) → behind done (ahead (as_settled status s) r) ≡ behind (done ++ as_settled status s ∷ []) r
-    at (Ok ss) = ap Ok (sym (append_assoc done (as_settled status s ∷ []) ss))
-    at (Err refusal) = refl
-
-    grown : and_settled live due done ++ as_live due (as_settled status s) ∷ [] ≡ and_settled live due (done ++ as_settled status s ∷ [])
-    grown = append_assoc live (map (as_live due) done) (as_live due (as_settled status s) ∷ []) ∙ ap (λ ls. live ++ ls) (sym (map-append (as_live due) done (as_settled status s ∷ [])))
-
--- one statement more is refused
-pub settled_refused : (place : ℕ) (live : List Live) (due : ℤ) (done : List Statement) (s : Statement) (statements : List Statement) (why : Refusal)
-    → verdict (and_settled live due done) s due ≡ Err why
-    → behind done (settled_from place (and_settled live due done) due (s ∷ statements)) ≡ Err (record { place = place; why = why })
-settled_refused place live due done s statements why e =
-    ap (λ v. behind done (settled_then place s v (λ t. settled_from (place + 1) (and_settled live due done ++ as_live due t ∷ []) due statements))) e
-
--- all are settled
-pub settled_end : (place : ℕ) (live : List Live) (due : ℤ) (done : List Statement) → behind done (settled_from place (and_settled live due done) due []) ≡ Ok done
-settled_end place live due done = ap Ok (append-nil done)

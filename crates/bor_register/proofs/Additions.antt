@@ -1,5 +1,5 @@
 -- The settled statements of a file may be added to the live ones that they were settled after.
-use Rattle.std.proofs.Common.{◌≡◌, ℕ, ◌+◌, ℤ, pos, List, [], ◌∷◌, ◌++◌, map, Result, Ok, Err, Bool, true, false, refl, sym, subst, ◌∙◌, if◌then◌else◌}
+use Rattle.std.proofs.Common.{◌≡◌, ℕ, ◌+◌, ℤ, List, [], ◌∷◌, ◌++◌, map, Result, Ok, Err, Bool, true, false, refl, sym, subst, ◌∙◌, if◌then◌else◌}
 use Rattle.std.specs.Prelude.{All, IsSome, ◌||◌}
 use Rattle.std.specs.List.{IsDistinct, AllByRecursion}
 use Rattle.std.proofs.lemmas.Bool.{or_parts}
@@ -40,11 +40,6 @@ new_ahead live due s ss status free rest =
       distinct = IsDistinct-cons is_same s.id (map (λ t. t.id) ss) (ids_other s.id ss apart) rest.distinct;
       free = All-cons (λ t. has_id t.id live ≡ false) s ss free others;
     }
-
-pub one_new : (live : List Live) (s : Statement) → IsSome s.status → has_id s.id live ≡ false → AreNew live (s ∷ [])
-one_new live s status free = new_ahead live (pos 0) s [] status free (none_new (live ++ as_live (pos 0) s ∷ []))
-
--- ---- what is settled
 
 not_taken : (live : List Live) (s : Statement) (due : ℤ) (status : Status) → verdict live s due ≡ Ok status → has_id s.id live ≡ false
 not_taken live s due status h = by_test (has_id s.id live) (sym (verdict_is live s due) ∙ h)

@@ -31,9 +31,6 @@ last_of-append d r xs ys = last_of-either d r xs ys ∙ by_later (last_of d r xs
 last_one : (d r : List ℕ) (l : Live) → last_of d r (l ∷ []) ≡ (if is_of d r l.statement then Some (known_of l) else None)
 last_one d r l = elim (is_of d r l.statement) as (λ b. option_map known_of (last_or None (if b then l ∷ [] else [])) ≡ (if b then Some (known_of l) else None)) [ true ↦ refl | false ↦ refl ]
 
-later_none : (o : Option Last) → later o None ≡ o
-later_none o = refl
-
 -- one more statement of a filing
 last_more : (d r : List ℕ) (due : ℤ) (ss : List Statement) (i : ℕ) (s : Statement) (b : Bool) → i < length ss → s ≡ get_or ss i s → is_of d r s ≡ b →
     last_of d r (map (as_live due) (take (i + 1) ss)) ≡ (if b then Some (known_of (as_live due s)) else last_of d r (map (as_live due) (take i ss)))

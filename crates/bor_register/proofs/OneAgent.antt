@@ -1,5 +1,5 @@
 -- The rows of a series that a viewer sees are among those of its agent.
-use Rattle.std.proofs.Common.{◌≡◌, ◌++◌, ◌&&◌, ◌+◌, ℕ, ℤ, Bool, true, false, cond, List, [], ◌∷◌, sym, refl, ap, ◌∙◌, subst, option_and_then}
+use Rattle.std.proofs.Common.{◌≡◌, ◌++◌, ◌&&◌, ◌+◌, ℕ, ℤ, Bool, true, false, cond, List, [], ◌∷◌, sym, refl, ap, ◌∙◌, subst}
 use Rattle.std.specs.Prelude.{filter}
 use Rattle.std.proofs.lemmas.List.{append-nil}
 use Rattle.std.proofs.lemmas.List.Elements.{filter-append}
@@ -7,13 +7,12 @@ use Rattle.bor_terms.specs.Texts.{is_same}
 use Rattle.bor_terms.proofs.Texts.{same_is, below_differs}
 use Rattle.bods_read.specs.declared.statement.Statement.{Statement}
 use Rattle.bor_records.specs.declared.row.Row.{Row}
-use Rattle.bor_records.specs.Snapshot.{latest, unless_closed}
 use Rattle.bor_register.specs.declared.filing.AcceptedFiling.{AcceptedFiling}
 use Rattle.bor_register.specs.declared.member.Member.{Member}
-use Rattle.bor_register.specs.Register.{IsOrdered, AllAbove, filings_of}
+use Rattle.bor_register.specs.Register.{AllAbove, filings_of}
 use Rattle.bor_register.specs.Rows.{is_visible, row_of, rows_from, rows_in, visible_in, visible}
 use Rattle.bor_records.specs.declared.links.node.Node.{Node}
-use Rattle.bor_records.specs.Links.Series.{series, is_of, open_at}
+use Rattle.bor_records.specs.Links.Series.{series, is_of}
 use Rattle.bor_register.specs.Seen.{SeriesIsOfOneAgent}
 
 -- another agent's rows have none of the series
@@ -59,7 +58,3 @@ one_agent viewer day n (m ∷ ms) h = filter-append (is_of n) (visible_in viewer
             moved p a = subst (λ (name : List ℕ). AllAbove name ms) p a
     at more false e =
         ap (λ (rs : List Row). rs ++ rest) (none_in n m.name (filter (is_visible viewer day m.name) m.filings) e) ∙ more
-
--- so what is open is told by its agent's filings
-pub open_of_agent : (viewer : List ℕ) (today day : ℤ) (n : Node) (ms : List Member) → IsOrdered ms → open_at day n (visible viewer today ms) ≡ open_at day n (visible_in viewer today n.agent (filings_of n.agent ms))
-open_of_agent viewer today day n ms h = ap (λ (rs : List Row). option_and_then unless_closed (latest day rs)) (one_agent viewer today n ms h)

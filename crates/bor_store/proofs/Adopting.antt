@@ -1,7 +1,5 @@
 -- The rows that the version's query finds, and that the tables of a register are all there.
-use Rattle.std.proofs.Common.{◌≡◌, ℤ, pos, Bool, true, false, ◌&&◌, List, [], ◌∷◌, ◌++◌, codes, Vec, Option, Some, None, Result, Ok, Err, IfOk, OnOk, IsTrue, refl, sym, subst}
-use Rattle.std.specs.List.{list_all}
-use Rattle.std.proofs.Math.Bool.{and-true}
+use Rattle.std.proofs.Common.{◌≡◌, ℤ, pos, true, false, ◌&&◌, List, [], ◌∷◌, ◌++◌, codes, Vec, Option, Some, None, Result, Ok, Err, IfOk, OnOk, IsTrue, refl, sym, subst}
 use Rattle.std.specs.declared.alloc.Global.{Global}
 use Rattle.sqlite_tied.specs.Compute.{everything}
 use Rattle.sqlite.specs.declared.types.Value.TheVariants.{Int, Null}
@@ -16,7 +14,6 @@ use Rattle.sqlite.specs.Given.{Returns}
 use Rattle.sqlite.specs.State.{IsStatement, State, Shown, ShowsRows}
 use Rattle.sqlite.specs.declared.error.Error.{Error}
 use Rattle.sqlite_schema.specs.declared.command.Returning.{Returning}
-use Rattle.sqlite.specs.Table.{Table}
 use Rattle.sqlite.specs.Term.{col}
 use Rattle.sqlite.proofs.Callers.{reads_as}
 use Rattle.sqlite_schema.specs.Names.{same_name}
@@ -140,12 +137,3 @@ first_has_first = refl
 pub first_is_free : is_period_used first_schema ≡ false
 unfolding same_name
 first_is_free = refl
-
--- one table more
-pub one_table_more : (p : Table → Bool) (xs : List Table) (y : Table) → list_all p (xs ++ y ∷ []) ≡ (list_all p xs && p y)
-one_table_more p [] y = and-true (p y)
-one_table_more p (x ∷ xs) y = go (p x) (one_table_more p xs y)
-  where
-    go : (b : Bool) → list_all p (xs ++ y ∷ []) ≡ (list_all p xs && p y) → (b && list_all p (xs ++ y ∷ [])) ≡ ((b && list_all p xs) && p y)
-    go true e = e
-    go false e = refl

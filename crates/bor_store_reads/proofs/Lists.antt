@@ -9,10 +9,6 @@ pub all_mapped : {X Y : Type 0} (P : X → Type 0) (Q : Y → Type 0) (f : X →
 all_mapped P Q f make [] h = All-nil Q
 all_mapped P Q f make (x ∷ xs) h = All-cons Q (f x) (map f xs) (make x (All-head P x xs h)) (all_mapped P Q f make xs (All-tail P x xs h))
 
-pub all_of_any : {X : Type 0} (P : X → Type 0) → ((x : X) → P x) → (xs : List X) → All P xs
-all_of_any P each [] = All-nil P
-all_of_any P each (x ∷ xs) = All-cons P x xs (each x) (all_of_any P each xs)
-
 all_turned : {X : Type 0} (P : X → Type 0) (xs : List X) → All P xs → All P (reverse xs)
 all_turned P [] h = h
 all_turned P (x ∷ xs) h =

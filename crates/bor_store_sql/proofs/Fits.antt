@@ -162,7 +162,3 @@ module _ (agent : List ℕ) (number : ℕ) (r : Register) (stored : IsStored r) 
         λ h. fit_of_rows agent number r.members 1 said (statements_kept agent number r) all_alone (subst (Pairwise (IsKept agent number r.members) 1 said) same h),
         λ h. subst (Pairwise (IsKept agent number r.members) 1 said) (sym same) (rows_of_fit agent number r.members 1 said (statements_kept agent number r) all_alone h),
       )
-
--- what is kept of the one filing with the number
-pub kept_of_one : (agent : List ℕ) (number : ℕ) (r : Register) (f : AcceptedFiling) → numbered number (filings_of agent r.members) ≡ f ∷ [] → statements_kept agent number r ≡ f.statements
-kept_of_one agent number r f one = ap statements_of one ∙ append-nil f.statements

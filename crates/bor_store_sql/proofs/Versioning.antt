@@ -14,7 +14,6 @@ use Rattle.sqlite_schema.specs.declared.schema.Keys.TheVariants.{Enforced}
 use Rattle.bor_register.specs.Register.{Register}
 use Rattle.bor_store_sql.specs.Texts.Tables.{keep_schema, register_at}
 use Rattle.bor_store_sql.specs.Texts.Changes.{equals_number, update_version_program, update_version_text}
-use Rattle.bor_store_sql.specs.declared.texts.changes.TheConstants.{FIRST_VERSION, VERSION}
 use Rattle.bor_store_sql.specs.Rows.Encoding.{Contents, contents, first_version, period_columns, register_columns, tables_version, versioned_columns}
 use Rattle.bor_store_sql.specs.Rows.Placed.{interest_rows, period_rows, placed, register_row}
 use Rattle.bor_store_sql.specs.declared.rows.typed.PeriodRow.{PeriodRow}
@@ -30,10 +29,6 @@ use Rattle.bor_store_sql.specs.Moving.{IsOneVersion, is_the_row, versioned, with
 use Rattle.bor_store_sql.specs.Shown.{Has, first_contents}
 use Rattle.bor_store_sql.proofs.Others.{with_register}
 use Rattle.bor_store_sql.proofs.OnTexts.ChangeMeanings.{update_version_is}
-
--- the versions that the code names are these
-versions_are : (VERSION ≡ tables_version) × (FIRST_VERSION ≡ first_version)
-versions_are = (refl, refl)
 
 -- no key acts where the register's row changes
 abbrev works_by : List Row → List Row → Bool → List Work

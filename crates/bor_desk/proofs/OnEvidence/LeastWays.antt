@@ -112,9 +112,6 @@ least_more s goal x y ys nearer way = record { is_way = (refl, (nearer.alias, wa
 pub record IsOnWay (s : Shown) (goal node at : Node) (way : List Node) : Type 0 where
   pub rest : (cs : List Node) → IsLeastWay s at (at ∷ cs) goal → IsLeastWay s node (way ++ cs) goal
 
-pub way_begins : (s : Shown) (goal node : Node) → IsOnWay s goal node node (node ∷ [])
-way_begins s goal node = record { rest = λ cs h. h }
-
 pub way_goes_on : (s : Shown) (goal node at next : Node) (way : List Node) → IsNearer s goal at next → IsOnWay s goal node at way → IsOnWay s goal node next (way ++ next ∷ [])
 way_goes_on s goal node at next way nearer on = record {
   rest = λ cs h. subst (λ (ds : List Node). IsLeastWay s node ds goal) (sym (append_assoc way (next ∷ []) cs)) (on.rest (next ∷ cs) (least_more s goal at next cs nearer h));

@@ -13,12 +13,11 @@ use Rattle.bor_chains.specs.Evidence.{AreEvidenced, IsLinkOf}
 use Rattle.bor_desk.specs.declared.evidence.lines.LinkEvidence.{LinkEvidence}
 use Rattle.bor_desk.specs.declared.evidence.lines.EntityEvidence.{EntityEvidence}
 use Rattle.bor_desk.specs.declared.evidence.lines.RecordEvidence.{RecordEvidence}
-use Rattle.bor_desk.specs.declared.refusal.Refusal.{Refusal}
 use Rattle.bor_desk.specs.declared.refusal.Refusal.TheVariants.{NoEntity}
 use Rattle.bor_desk.specs.Evidence.{AreLinkEvidence, AreRecords, IsLinkEvidence, IsMentioned, goal_of, person_evidence}
 use Rattle.bor_desk.specs.Mentioned.{AreMentioned, records_at}
 use Rattle.bor_desk.specs.Outcomes.{IsEvidenceFound, IsTreeFound}
-use Rattle.bor_desk.specs.Step.{evidence, evidence_answer, refused, report, report_on}
+use Rattle.bor_desk.specs.Step.{evidence, refused, report}
 use Rattle.bor_desk.specs.Ways.{AreLinked}
 use Rattle.bor_desk.proofs.OnEvidence.Mentions.{records_told}
 
@@ -70,11 +69,3 @@ evidence_found seen entity day tree lines nodes told found links mentioned perso
             (subst (λ (rs : List RecordEvidence). AreRecords day seen (IsMentioned entity tree lines) rs) (sym records) (records_told day seen entity tree lines nodes there found.1 are mentioned));
       },
     )
-
--- why nothing was
-pub evidence_refused : (seen : List Row) (entity : Node) (day : ℤ) (why : Refusal) → report_on (shown_of day seen) entity day ≡ refused why → evidence_answer seen entity day ≡ refused why
-evidence_refused seen entity day why h = at (is_entity_info (info_of (shown_of day seen) entity)) h
-  where
-    at : (b : Bool) → cond b (report entity day (shown_of day seen)) (refused NoEntity) ≡ refused why → cond b (evidence entity day seen) (refused NoEntity) ≡ refused why
-    at true k = absurd cc
-    at false k = k

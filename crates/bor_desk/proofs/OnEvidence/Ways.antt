@@ -67,14 +67,6 @@ added_none node a found = record {
   told = λ x. (λ h. inl h, λ h. elim h [ inl was ↦ was | inr new ↦ absurd (not_some (a x) new.0 new.1) ]);
 }
 
-pub added_there : (node x : Node) (a : Followers) (found : List Node) → IsSome (a x) → AreAdded node (x ∷ []) a a found found
-added_there node x a found there = record {
-  stays = λ y next e. e;
-  each = λ y next gone is. absurd (not_both (a y) next gone is);
-  every = λ y h. elim (cases x [] y h) [ inl e ↦ subst (λ (z : Node). IsSome (a z)) e there | inr never ↦ absurd (none y never) ];
-  told = λ y. (λ h. inl h, λ h. elim h [ inl was ↦ was | inr new ↦ absurd (not_some (a y) new.0 new.1) ]);
-}
-
 equal : (o : Ordering) → is_eq o ≡ true → o ≡ Equal
 equal Less e = absurd cc
 equal Equal e = refl

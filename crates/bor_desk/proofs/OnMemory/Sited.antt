@@ -99,10 +99,6 @@ pub no_places : (test : Statement → Bool) (i j : ℕ) (ss : List Statement) �
 no_places test i j [] h = refl
 no_places test i j (s ∷ ss) h = ap (λ (b : Bool). if b then record { filing = i; statement = j } ∷ places_from test i (j + 1) ss else places_from test i (j + 1) ss) (h s) ∙ no_places test i (j + 1) ss h
 
-pub same_places : (test other : Statement → Bool) (i j : ℕ) (ss : List Statement) → ((s : Statement) → test s ≡ other s) → places_from test i j ss ≡ places_from other i j ss
-same_places test other i j [] h = refl
-same_places test other i j (s ∷ ss) h = ap₂ (λ (b : Bool) (ps : List Place). if b then record { filing = i; statement = j } ∷ ps else ps) (h s) (same_places test other i (j + 1) ss h)
-
 -- what stands at the last place that passes is the last statement that passes
 pub picked : (at : Place → Option Sited) (test : Sited → Bool) (o : Option Place) (ps : List Place) → option_and_then at (last_or o (filter (λ p. passes test (at p)) ps)) ≡ last_or (option_and_then at o) (filter test (filter_map at ps))
 picked at test o [] = refl

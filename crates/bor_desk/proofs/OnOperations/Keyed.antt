@@ -3,11 +3,6 @@ use Rattle.std.proofs.Common.{◌≡◌, refl}
 use Rattle.std.specs.Prelude.{Option, Some, None, option_map}
 use Rattle.bor_register.specs.declared.filing.AcceptedFiling.{AcceptedFiling}
 
--- none is told where there is none
-pub keyed_none : {T : Type 0} (show : AcceptedFiling → T) (o : Option AcceptedFiling) → None ≡ option_map show o → o ≡ None
-keyed_none show None h = refl
-keyed_none show (Some f) h = absurd cc
-
 -- what is told is what is shown of one that is there
 pub keyed_some : {T : Type 0} (show : AcceptedFiling → T) (o : Option AcceptedFiling) (told : T) → Some told ≡ option_map show o → (f : AcceptedFiling) × (o ≡ Some f) × (told ≡ show f)
 keyed_some show None told h = absurd cc

@@ -1,8 +1,8 @@
 -- The refusals of a lodging, and the register after a refused one.
-use Rattle.std.proofs.Common.{◌≡◌, ℕ, zero, suc, ℤ, ◌+◌, ◌<◌, ◌≤◌, subst, List, [], ◌∷◌, ◌++◌, length, take, drop, get_or, set, map, true, false, Result, Ok, Err, refl, ◌∙◌, sym, ap, append_assoc, arith}
+use Rattle.std.proofs.Common.{◌≡◌, ℕ, ℤ, ◌+◌, ◌<◌, ◌≤◌, subst, List, [], ◌∷◌, ◌++◌, length, take, drop, get_or, set, map, true, false, Result, Ok, Err, refl, ◌∙◌, sym, ap, append_assoc, arith}
 use Rattle.std.specs.Prelude.{◌≢◌, ◌%◌, ◌^◌, Some, Bool, nat_le, int_lt, if◌then◌else◌}
 use Rattle.std.proofs.lemmas.Bool.{leb-false}
-use Rattle.std.proofs.lemmas.List.{take_more_set, get_or_default, get_or-set_same, drop_more, drop-set-lt, append-nil, map-append, take_all}
+use Rattle.std.proofs.lemmas.List.{take_more_set, get_or_default, get_or-set_same, drop_more, drop-set-lt, map-append}
 use Rattle.bods_read.specs.declared.statement.Statement.{Statement}
 use Rattle.bods_read.specs.declared.statement.Status.{Status}
 use Rattle.bods_read.specs.declared.fault.FileFault.{FileFault}
@@ -59,13 +59,6 @@ behind front (Err refusal) = Err refusal
 abbrev pub so_far : List Live → ℤ → List Statement → ℕ → Result (List Statement) PlacedRefusal
 so_far live due ss i = behind (take i ss) (settled_from (i + 1) (live ++ map (as_live due) (take i ss)) due (drop i ss))
 
-behind-nil : (x : Result (List Statement) PlacedRefusal) → behind [] x ≡ x
-behind-nil (Ok ss) = refl
-behind-nil (Err e) = refl
-
-pub so_far-begin : (live : List Live) (due : ℤ) (ss : List Statement) → so_far live due ss 0 ≡ settled live due ss
-so_far-begin live due ss = behind-nil (settled_from 1 (live ++ []) due ss) ∙ ap (λ ls. settled_from 1 ls due ss) (append-nil live)
-
 behind-ahead : (front : List Statement) (s : Statement) (x : Result (List Statement) PlacedRefusal) → behind front (ahead s x) ≡ behind (front ++ s ∷ []) x
 behind-ahead front s (Ok ss) = ap (λ (ys : List Statement). Ok ys) (sym (append_assoc front (s ∷ []) ss))
 behind-ahead front s (Err e) = refl
@@ -101,17 +94,6 @@ pub live_so_far : (due : ℤ) (ss : List Statement) (i : ℕ) (s d : Statement) 
 live_so_far due ss i s d lt =
     ap (λ (x : Statement). map (as_live due) (take i ss) ++ as_live due x ∷ []) (get_or-set_same ss i s d lt)
     ∙ sym (map-append (as_live due) (take i ss) (s ∷ [])) ∙ sym (ap (λ ys. map (as_live due) ys) (take_more_set ss i s lt))
-
-drop_past : (ss : List Statement) (i : ℕ) → length ss ≤ i → drop i ss ≡ []
-drop_past [] zero le = refl
-drop_past [] (suc i) le = refl
-drop_past (s ∷ ss) zero le = absurd (omega arith)
-drop_past (s ∷ ss) (suc i) le = drop_past ss i (omega arith)
-
-pub so_far-end : (live : List Live) (due : ℤ) (ss : List Statement) (i : ℕ) → length ss ≤ i → so_far live due ss i ≡ Ok ss
-so_far-end live due ss i le =
-    ap (λ ys. behind (take i ss) (settled_from (i + 1) (live ++ map (as_live due) (take i ss)) due ys)) (drop_past ss i le)
-    ∙ ap (λ (ys : List Statement). Ok ys) (append-nil (take i ss) ∙ take_all i ss le)
 
 refused_is : (e : LodgeFault) (front : List Statement) (place : ℕ) (s : Statement) (v : Result Status Refusal) (rest : Statement → Result (List Statement) PlacedRefusal) →
     told_verdict place v ≡ Err e → told_settled (behind front (settled_then place s v rest)) ≡ Err e

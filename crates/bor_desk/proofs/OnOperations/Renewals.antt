@@ -153,11 +153,6 @@ agent_with_token name token (m ∷ ms) on free = at (λ here free'. agent_with_t
     at more false false e f = rw (e, f) (more (rw e at on) (rw f at free))
     at more false true e f = absurd (let no = rw f at free in cc)
 
--- a token that nobody has among the agents
-unknown-with_token : (name token old : List ℕ) (ms : List Member) → is_same token old ≡ false → agent_with old ms ≡ None → agent_with old (with_token name token ms) ≡ None
-unknown-with_token name token old [] other free = refl
-unknown-with_token name token old (m ∷ ms) other free = grind (arith, unknown-with_token name token old ms)
-
 -- nobody below the one that has the token has it
 none_with : (token : List ℕ) (ms : List Member) → is_agents_token token ms ≡ false → agent_with token ms ≡ None
 none_with token [] h = refl

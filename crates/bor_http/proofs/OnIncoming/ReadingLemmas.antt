@@ -1,24 +1,14 @@
 -- The whole input, from a buffer that grew from a reader.
-use Rattle.std.proofs.Common.{◌≡◌, ◌≤◌, length, drop, take, ℕ, ◌+◌, ◌-◌, ◌<◌, List, [], ◌∷◌, ◌++◌, Some, None, Option, Result, Ok, Err, refl, sym, ap, ◌∙◌, arith, false, true, Bool, nat_lt, not, IfSome, cond, append_assoc, append-nil, length-append, subst}
+use Rattle.std.proofs.Common.{◌≡◌, ◌≤◌, length, drop, take, ℕ, ◌+◌, ◌-◌, ◌<◌, List, [], ◌∷◌, ◌++◌, Some, None, Option, Ok, Err, refl, sym, ap, ◌∙◌, arith, false, true, Bool, nat_lt, not, IfSome, cond, append_assoc, append-nil, length-append, subst}
 use Rattle.std.specs.Io.KnownBytes.{Consumes, IsAtEnd}
 use Rattle.std.proofs.lemmas.List.{take_all, take-append-le, take-append-drop}
 use Rattle.std.proofs.lemmas.Bool.Decides.{nat_tests}
 use Rattle.std.proofs.Math.Seq.{take-append-add}
-use Rattle.bor_http.specs.declared.incoming.fault.Refusal.{Refusal}
 use Rattle.bor_http.specs.declared.incoming.fault.Refusal.TheVariants.{HeadTooLarge, CutShort}
 use Rattle.bor_http.specs.Incoming.Head.{head_len, line_feeds, line_limit}
 use Rattle.bor_http.specs.Incoming.Steps.{head_within, without_head, with_few_lines}
-use Rattle.bor_http.specs.declared.incoming.fault.WireFault.{WireFault}
-use Rattle.bor_http.specs.declared.incoming.fault.WireFault.TheVariants.{Refused, Read, Memory}
-use Rattle.bor_http.specs.Incoming.Reading.{Grows, IsNoRefusal, GivesFault}
+use Rattle.bor_http.specs.Incoming.Reading.{Grows}
 use Rattle.bor_http.proofs.OnIncoming.HeadLemmas.{head_len-append, head_len-le}
-
-Grows-none : {left : Option (List ℕ)} → (old : List ℕ) → Grows left left old old
-Grows-none {left} old = record { bytes = []; appended = sym (append-nil old); consumed = same left }
-  where
-    same : (a : Option (List ℕ)) → Consumes a a []
-    same None = tt
-    same (Some x) = refl
 
 Consumes-more : (a b c : Option (List ℕ)) (bs cs : List ℕ) → Consumes a b bs → Consumes b c cs → Consumes a c (bs ++ cs)
 Consumes-more None b c bs cs p q = tt
@@ -100,11 +90,6 @@ many_lines buffer n e = go (nat_lt line_limit (line_feeds (take n buffer))) e
     go : (b : Bool) → not b ≡ false → cond b (Err HeadTooLarge) (Ok n) ≡ Err HeadTooLarge
     go true e = refl
     go false e = cc
-
-pub gives_no_refusal : {Y : Type 0} (e : WireFault) (stated : Result Y Refusal) → IsNoRefusal e → GivesFault e stated
-gives_no_refusal (Refused r) stated h = absurd h
-gives_no_refusal Read stated h = tt
-gives_no_refusal Memory stated h = tt
 
 -- a buffer that took nothing is the same
 pub same_from_length : (old new bytes : List ℕ) → new ≡ old ++ bytes → length new ≡ length old → new ≡ old

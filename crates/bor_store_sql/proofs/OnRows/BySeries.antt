@@ -1,16 +1,15 @@
 -- An agent's live statements in a register, from their rows.
-use Rattle.std.proofs.Common.{◌≡◌, ℕ, ◌+◌, ◌<◌, ◌==◌, Bool, true, false, List, [], ◌∷◌, ◌++◌, map, length, Option, Some, None, refl, sym, ap, ap₂, ◌∙◌, arith, subst, if◌then◌else◌}
-use Rattle.std.specs.Prelude.{filter, option_map, nat_lt}
+use Rattle.std.proofs.Common.{◌≡◌, ℕ, ◌+◌, ◌<◌, ◌==◌, Bool, true, false, List, [], ◌∷◌, ◌++◌, map, Option, Some, None, refl, sym, ap, ap₂, ◌∙◌, arith, subst, if◌then◌else◌}
+use Rattle.std.specs.Prelude.{filter, option_map}
 use Rattle.std.specs.List.{AllByRecursion, list_any, last_or}
 use Rattle.std.proofs.lemmas.List.{map-append}
 use Rattle.sqlite_keyed.proofs.ListLemmas.{all-append, filter-map}
-use Rattle.bor_terms.specs.Texts.{is_same}
 use Rattle.bods_read.specs.declared.statement.Statement.{Statement}
 use Rattle.bods_read.specs.declared.details.Details.{Details}
 use Rattle.bods_read.specs.declared.details.Details.TheVariants as details
 use Rattle.bods_read.specs.Words.{type_of}
 use Rattle.bor_records.specs.Admission.{Live, is_of, known_of, last_of}
-use Rattle.bor_records.specs.Settling.{as_live, has_id}
+use Rattle.bor_records.specs.Settling.{as_live}
 use Rattle.bor_register.specs.Live.{live_of}
 use Rattle.bor_register.specs.declared.filing.AcceptedFiling.{AcceptedFiling}
 use Rattle.bor_store_sql.specs.declared.rows.typed.Placed.{Placed}
@@ -18,7 +17,6 @@ use Rattle.bor_store_sql.specs.Rows.Placed.{bare, part_of, placed_from, placed_b
 use Rattle.bor_store_sql.specs.Rows.Seen.{type_of_part, known_at}
 use Rattle.bor_store_sql.specs.Rows.Stored.{AreNumbered}
 use Rattle.bor_store_sql.proofs.OnRows.Numbers.{same_number, other_number, before_number}
-use Rattle.bor_store_sql.proofs.OnRows.ByKey.{any_found}
 
 -- a live statement with where it stands
 record Standing : Type 0 where
@@ -81,9 +79,6 @@ none_numbered number n (f ∷ fs) low numbered = rw (other_number number f.numbe
 own_from : (agent : List ℕ) (f : AcceptedFiling) (fs : List AcceptedFiling) (n place : ℕ) → f.number < n → AreNumbered n fs → (ss : List Statement) → AllByRecursion (Owns (f ∷ fs)) (standing_from agent f place ss)
 own_from agent f fs n place low numbered [] = tt
 own_from agent f fs n place low numbered (s ∷ ss) = (rw (same_number f.number, none_numbered f.number n fs low numbered) refl, own_from agent f fs n (place + 1) low numbered ss)
-
-owns_more : (f : AcceptedFiling) (fs : List AcceptedFiling) (n : ℕ) (t : Standing) → f.number < t.at.at.filing → Owns fs t → Owns (f ∷ fs) t
-owns_more f fs n t low owns = rw (before_number f.number t.at.at.filing low) owns
 
 later_own : (agent : List ℕ) (f g : AcceptedFiling) (fs : List AcceptedFiling) (place : ℕ) → f.number < g.number → (ss : List Statement) → AllByRecursion (Owns fs) (standing_from agent g place ss)
     → AllByRecursion (Owns (f ∷ fs)) (standing_from agent g place ss)
@@ -168,12 +163,3 @@ module _ (agent declaration rec : List ℕ) (fs : List AcceptedFiling) where
 pub any_map : {A B : Type 0} (p : B → Bool) (g : A → B) (xs : List A) → list_any p (map g xs) ≡ list_any (λ x. p (g x)) xs
 any_map p g [] = refl
 any_map p g (x ∷ xs) = rw (any_map p g xs) refl
-
--- a live statement has the identifier where one is found
-pub identified_is : (agent id : List ℕ) (fs : List AcceptedFiling) → nat_lt 0 (length (filter (λ (p : Placed). is_same p.statement.id id) (placed_by agent fs))) ≡ has_id id (live_of fs)
-identified_is agent id fs =
-    any_found (λ (p : Placed). is_same p.statement.id id) (placed_by agent fs)
-    ∙ ap (list_any (λ (p : Placed). is_same p.statement.id id)) (sym (placed_standing agent fs))
-    ∙ any_map (λ (p : Placed). is_same p.statement.id id) (λ (t : Standing). t.at) (standing agent fs)
-    ∙ sym (any_map (λ (l : Live). is_same l.statement.id id) live_at (standing agent fs))
-    ∙ ap (has_id id) (live_standing agent fs)

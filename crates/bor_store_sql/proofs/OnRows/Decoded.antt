@@ -25,7 +25,7 @@ use Rattle.bor_store_sql.specs.declared.rows.typed.PeriodRow.{PeriodRow}
 use Rattle.bor_store_sql.specs.declared.rows.typed.IdentifierRow.{IdentifierRow}
 use Rattle.bor_store_sql.specs.Rows.Words.{entity_kind_of, person_kind_of, interest_kind_of, directness_named}
 use Rattle.bor_store_sql.specs.Rows.WordLaws.{type_back, status_back, entity_back, person_back, interest_back, directness_back}
-use Rattle.bor_store_sql.specs.Rows.Encoding.{truth, or_null, day_or_null, statement_columns, interest_line_columns, period_columns, identifier_columns, agent_row_columns, register_row_columns, filing_columns}
+use Rattle.bor_store_sql.specs.Rows.Encoding.{truth, or_null, day_or_null, statement_columns, interest_line_columns, period_columns, identifier_columns, filing_columns}
 
 -- ---- lists of rows
 
@@ -188,9 +188,3 @@ identifier_in row = record { at = at_in row; item = number_in (column row 3); id
 
 pub identifier_back : (i : IdentifierRow) → identifier_in (identifier_columns i) ≡ i
 identifier_back i = refl
-
-pub agent_back : (a : AgentRow) → agent_in (agent_row_columns a) ≡ a
-agent_back a = refl
-
-pub register_back : (r : RegisterRow) → register_in (register_row_columns r) ≡ r
-register_back r = refl

@@ -11,9 +11,8 @@ use Rattle.bods_read.specs.declared.statement.Statement.{Statement}
 use Rattle.bor_register.specs.Rows.{row_of, rows_from, rows_in, rows_of, of_declaration, is_visible}
 use Rattle.bor_register.specs.declared.filing.AcceptedFiling.{AcceptedFiling}
 use Rattle.bor_store_sql.specs.declared.rows.typed.Placed.{Placed}
-use Rattle.bor_store_sql.specs.declared.rows.typed.FilingRow.{FilingRow}
-use Rattle.bor_store_sql.specs.Rows.Placed.{filing_row, placed_from, placed_by}
-use Rattle.bor_store_sql.specs.Rows.Seen.{row_placed, is_of_declaration, is_seen, is_line_visible}
+use Rattle.bor_store_sql.specs.Rows.Placed.{placed_from, placed_by}
+use Rattle.bor_store_sql.specs.Rows.Seen.{row_placed, is_of_declaration, is_seen}
 use Rattle.bor_store_sql.specs.Rows.Stored.{AreNumbered}
 use Rattle.bor_store_sql.proofs.OnRows.Numbers.{same_number, other_number, before_number}
 
@@ -94,22 +93,3 @@ module _ (viewer : List ℕ) (day : ℤ) (agent : List ℕ) where
       ap (of_declaration declaration) (rows_in-placed agent (filter (is_visible viewer day agent) fs) ∙ ap (map row_placed) (visible_placed n fs numbered))
       ∙ filter-map (λ row. is_same row.statement.declaration declaration) row_placed (filter (is_seen viewer day agent fs) (placed_by agent fs))
       ∙ ap (map row_placed) (filters_swap (is_of_declaration declaration) (is_seen viewer day agent fs) (placed_by agent fs))
-
-any_kept : {X : Type 0} (p q : X → Bool) (xs : List X) → list_any (λ x. p x && q x) xs ≡ list_any q (filter p xs)
-any_kept p q [] = refl
-any_kept p q (x ∷ xs) = go (p x) (any_kept p q xs)
-  where
-    go : (b : Bool) → list_any (λ y. p y && q y) xs ≡ list_any q (filter p xs) → ((b && q x) || list_any (λ y. p y && q y) xs) ≡ list_any q (if b then x ∷ filter p xs else filter p xs)
-    go true rest = ap (λ c. q x || c) rest
-    go false rest = rest
-
-any_row : (p : FilingRow → Bool) (agent : List ℕ) (fs : List AcceptedFiling) → list_any (λ f. p (filing_row agent f)) fs ≡ list_any p (map (filing_row agent) fs)
-any_row p agent [] = refl
-any_row p agent (f ∷ fs) = ap (λ c. p (filing_row agent f) || c) (any_row p agent fs)
-
--- a statement is seen where the row of its filing, found by its number, is visible
-pub seen_by_number : (viewer : List ℕ) (day : ℤ) (agent : List ℕ) (fs : List AcceptedFiling) (p : Placed)
-    → is_seen viewer day agent fs p ≡ list_any (is_line_visible viewer day) (map (filing_row agent) (filter (λ f. f.number == p.at.filing) fs))
-seen_by_number viewer day agent fs p =
-    any_kept (λ f. f.number == p.at.filing) (is_visible viewer day agent) fs
-    ∙ any_row (is_line_visible viewer day) agent (filter (λ f. f.number == p.at.filing) fs)

@@ -73,10 +73,6 @@ later_items : (at : At) (m n : ℕ) (is : List Interest) → m < n → (i : Inte
 later_items at m n [] lt i here e = tt
 later_items at m n (x ∷ is) lt i here e = (rw (here, e) (other_item at m n lt), later_items at m (n + 1) is (omega (arith, lt)) i here e)
 
-several_from : (at : At) (n : ℕ) (is : List Interest) → AreSeveral (interests_from at n is)
-several_from at n [] = tt
-several_from at n (x ∷ is) = (later_items at n (n + 1) is (omega arith) (record { at = at; item = n; interest = x }) refl refl, several_from at (n + 1) is)
-
 and_false : (b : Bool) → (b && false) ≡ false
 and_false true = refl
 and_false false = refl
