@@ -66,7 +66,3 @@ module _ (ms : List Member) (l : FilingRow) where
       go : (o : Option AcceptedFiling) → None ≡ option_map filing_shown o → (days : List PeriodRow) → FoundSays l.agent l.number o days → ⊥
       go None e days says = says
       go (Some f) e days says = absurd cc
-
--- a read that fails for another cause than damage tells nothing of a file
-pub not_read : (X : Type 0) (Says : List PeriodRow → Type 0) (before after : List PeriodRow) (error : ReadError) → IsNoDamage error → (result : Result X ReadError) → (told : ReadError) × (result ≡ Err told) × (told ≡ error) → Gathers Says before after result
-not_read X Says before after error whole result told = subst (Gathers Says before after) (sym told.1) (λ damaged days says. whole (sym told.2 ∙ damaged))

@@ -9,7 +9,6 @@ use Rattle.bods_read.specs.declared.details.Details.{Details}
 use Rattle.bods_read.specs.declared.details.Details.TheVariants as details
 use Rattle.bods_read.specs.declared.statement.Statement.{Statement}
 use Rattle.bor_records.specs.declared.links.node.Node.{Node}
-use Rattle.bor_records.specs.declared.links.node.NodeInfo.{NodeInfo}
 use Rattle.bor_records.specs.declared.links.node.OpenNode.{OpenNode}
 use Rattle.bor_records.specs.declared.links.sign.Sign.{Sign}
 use Rattle.bor_records.specs.declared.row.Row.{Row}
@@ -27,7 +26,7 @@ use Rattle.bor_register.specs.declared.member.Member.{Member}
 use Rattle.bor_register.specs.Register.{IsOrdered}
 use Rattle.bor_register.specs.Rows.{visible}
 use Rattle.bor_desk.specs.Memory.Indexed.{AllNoted, record_beside, signs_in, signs_of, subjects_in, subjects_of}
-use Rattle.bor_desk.specs.Memory.Sighted.{as_row, identifiers_in}
+use Rattle.bor_desk.specs.Memory.Sighted.{as_row}
 use Rattle.bor_desk.proofs.OnMemory.Rows.{seen-live}
 
 -- ---- nodes
@@ -52,14 +51,6 @@ module _ (day : ℤ) (rows : List Row) (n : Node) where
       go : (o : Option Statement) → option_and_then (λ (s : Statement). info_stated s.details) o ≡ option_map (λ (x : OpenNode). x.info) (option_and_then (λ (s : Statement). node_with n s.details) o)
       go None = refl
       go (Some s) = sym (info_made n s.details)
-
--- what details say of a node, part by part
-pub node_parts : (n : Node) (d : Details) → node_with n d ≡ option_map (λ (i : NodeInfo). let x : OpenNode = record { node = n; info = i; identifiers = identifiers_in d } in x) (info_stated d)
-node_parts n (details.Entity kind name identifiers) = refl
-node_parts n (details.Person kind name) = refl
-node_parts n (details.Relationship subject party interests) = refl
-
--- ---- links
 
 link_placed : (day : ℤ) (nodes : List OpenNode) (r : Row) (agent : List ℕ) (d : Details) → r.agent ≡ agent → link_with day nodes r d ≡ link_with day nodes (as_row agent r.statement) d
 link_placed day nodes r agent d e = subst (λ (a : List ℕ). link_with day nodes r d ≡ link_with day nodes (as_row a r.statement) d) e (go d)
