@@ -18,12 +18,13 @@ import threading
 import time
 from pathlib import Path
 
+from lib.countdown import Countdown, Told, used_below
+
 TOP = Path(__file__).resolve().parent.parent.parent
 MEMORY = 2_500_000_000  # that a check takes, in bytes; with each job more, 0.6 of it
 # The seconds of processor time that a crate takes of which none were measured: each, for a line of its src, for such
 # a line where it stands on SQLite, and for linking the program. An earlier check saves two thirds.
 ANY, LINE, SQL_LINE, LINK = 30, 0.11, 0.09, 200
-CROWDED = 1.3  # how much dearer checks are side by side, with what stays idle
 MEASURED = re.compile(r"\| `(\w+)` \| (\d+)")
 # A check works on gigabytes of small values. Its allocator, mimalloc, takes a twentieth less of its time where it makes
 # its room in one go and keeps what it was given.
@@ -96,87 +97,52 @@ def seconds(crate, lib, took):
 
 
 class Progress:
-    """How far the work is. The crates stand with their expected seconds, each after those that it waits for."""
+    """How far the work is, told as it changes. The crates stand each after those that it waits for."""
 
     def __init__(self, rt, crates):
         self.lanes, self.most = lanes_of(rt), most_jobs(rt)
         took = measured()
-        # (a job more saves half of what it could: with four a crate takes two fifths of its seconds)
-        self.speed = 1 + (self.most - 1) / 2
-        self.expected = {it.name: seconds(it, rt.rtlib, took) / self.speed for it in crates}
+        self.expected = {it.name: seconds(it, rt.rtlib, took) for it in crates}
         self.waits = {it.name: [below.name for below in it.below() if below in crates] for it in crates}
-        self.began, self.took, self.failed, self.minutes, self.told = {}, {}, set(), 0, ""
-        # those that had every processor
-        self.first = set()
+        self.countdown = Countdown(self.expected, self.waits, self.lanes, self.most, time.monotonic())
+        # the crates that are being proved, with how many jobs
+        self.running, self.ended, self.failed, self.shown, self.told = {}, set(), set(), Told(), ""
         self.turn, self.is_over = threading.RLock(), threading.Event()
         threading.Thread(target=self.follow, daemon=True).start()
 
-    def begin(self, name, is_first=False):
-        """A crate is begun, with every processor where the others give way to it."""
+    def begin(self, name, jobs):
+        """A crate is begun with so many jobs."""
         with self.turn:
-            self.began[name] = time.monotonic()
-            self.first |= {name} if is_first else set()
+            self.running[name] = jobs
             self.tell()
 
     def end(self, name, is_proved=True):
         """A crate is proved, or it isn't, which may be since one below it isn't."""
         with self.turn:
-            began = self.began.get(name)
-            self.took[name] = self.expected[name] if began is None else time.monotonic() - began
+            self.running.pop(name, None)
+            self.ended.add(name)
             self.failed |= set() if is_proved else {name}
             self.tell()
 
-    def chains(self, each):
-        """For each crate how long the longest chain of those that it waits for takes, and itself."""
-        found = {}
-        for name in self.expected:
-            found[name] = each(name) + max((found[it] for it in self.waits[name]), default=0)
-        return found
-
     def longest_chain(self):
-        """The crates of the chain that takes longest, of what is left."""
-        left = self.rests()
-        chains, names = self.chains(left.get), set()
-        last = max(chains, key=chains.get, default=None)
-        while last:
-            names.add(last)
-            last = max(self.waits[last], key=chains.get, default=None)
-        return names
-
-    def rests(self):
-        """The seconds that each crate still takes, at the pace of those that had every processor and have ended."""
-        # (what was expected counts as much as a first crate of two minutes)
-        ended = self.first & {*self.took}
-        pace = (120 + sum(self.took[it] for it in ended)) / (120 + sum(self.expected[it] for it in ended))
-        now, rests = time.monotonic(), {}
-        for name, wanted in self.expected.items():
-            rest = pace * wanted - (now - self.began.get(name, now))
-            rests[name] = 0 if name in self.took else max(rest, pace * wanted / 10)
-        return rests
-
-    def left(self):
-        """The seconds left, by the longest chain and by the work over the lanes, which make each other dearer."""
-        rests = self.rests()
-        work = sum(rests.values()) * self.speed / self.lanes * (CROWDED if self.lanes > 1 else 1)
-        return max(max(self.chains(rests.get).values()), work)
+        """The crates that all others wait for."""
+        with self.turn:
+            return self.countdown.longest_chain()
 
     def tell(self):
         """Tells how far the work is, where that has changed: on a terminal in one line, else in a line each."""
         with self.turn:
-            if len(self.took) == len(self.expected):
+            self.countdown.see(time.monotonic(), used_below(os.getpid()), self.running, self.ended)
+            if len(self.ended) == len(self.expected):
                 return
-            minutes = max(round(self.left() / 60), 1)
-            # (it goes down, unless what was told was wrong by a third)
-            self.minutes = self.minutes if self.minutes < minutes <= self.minutes * 4 / 3 else minutes
-            time_left = f"about {self.minutes} minute{'s' * (self.minutes > 1)} left"
-            proved = len(self.took) - len(self.failed)
-            text = f"proved {proved} of {len(self.expected)} crates, {time_left}"
+            proved = len(self.ended) - len(self.failed)
+            text = f"proved {proved} of {len(self.expected)} crates, {self.shown.words(*self.countdown.left())}"
             if text != self.told and not self.is_over.is_set():
                 self.told = text
                 say(f"\r\033[K{text}" if ERRORS.isatty() else f"{text}\n")
 
     def follow(self):
-        while not self.is_over.wait(5):
+        while not self.is_over.wait(3):
             self.tell()
 
     def stop(self, ending):
@@ -236,9 +202,9 @@ def build(rt, crate, jobs):
     return status
 
 
-def prove(rt, crate, progress, jobs, is_first=False):
+def prove(rt, crate, progress, jobs):
     """Proves a library and leaves it built; what was said where it couldn't be. Its out/build.log has that too."""
-    progress.begin(crate.name, is_first)
+    progress.begin(crate.name, jobs)
     os.makedirs(f"{crate.folder}/out", exist_ok=True)
     with open(f"{crate.folder}/out/build.log", "w+", encoding="utf-8") as crate.out:
         try:
@@ -265,10 +231,8 @@ def prove_all(rt, crates, progress, failed):
             return False
         # All wait for the longest chain of what is left: a crate of it gets every processor, where that leaves
         # memory for others. Any other crate gives way to it, and has the processors that no other one waits for.
-        with progress.turn:
-            is_waited_for = crate.name in progress.longest_chain()
-        if is_waited_for:
-            said = prove(rt, crate, progress, max(jobs, progress.most), is_first=True)
+        if crate.name in progress.longest_chain():
+            said = prove(rt, crate, progress, max(jobs, progress.most))
         else:
             said = give_way(lambda: prove(rt, crate, progress, jobs))
         if said is not None:
