@@ -7,6 +7,10 @@ import sys
 from pathlib import Path
 
 TOP = Path(__file__).resolve().parent.parent.parent
+sys.path.append(str(TOP / "tools" / "lib"))
+
+from crates import listed, with_those_below
+
 # This builds the program where it has to be built, and runs it.
 BOR = str(TOP / "bor")
 BUILT = str(TOP / "crates" / "bor" / "out" / "bor")
@@ -27,28 +31,15 @@ def linked(source, target):
         shutil.copy2(source, target)
 
 
-def below(crates):
-    """The lines of crates.txt of these crates and of those that they stand on, by their names."""
-    lines = [line for line in (TOP / "crates.txt").read_text().splitlines() if ":" in line]
-    listed = {line.split(":")[0].strip(): line for line in lines}
-    found, left = {}, list(crates)
-    while left:
-        name = left.pop()
-        if name in listed and name not in found:
-            found[name] = listed[name]
-            left += listed[name].split(":")[1].split()
-    return found
-
-
 def made(folder, name, text, crates, libraries="", modules=()):
     """Makes a program's crate in a repository of its own, beside links to these crates and those below them; it may take modules."""
-    crate, needed = folder / "crates" / name, below(crates)
+    crate, needed = folder / "crates" / name, with_those_below(crates)
     (crate / "src").mkdir(parents=True)
     (crate / "src" / "main.rt").write_text(text)
     for module in modules:
         shutil.copy(module, crate / "src")
-    own = f"{name}: {' '.join([*needed, *libraries.split()])}"
-    (folder / "crates.txt").write_text("\n".join([*needed.values(), own]) + "\n")
+    lists = {**{it: below for it, below in listed().items() if it in needed}, name: [*needed, *libraries.split()]}
+    (folder / "crates.txt").write_text("".join(f"{it}: {' '.join(below)}\n" for it, below in lists.items()))
     shutil.copy(TOP / "HANDLES", folder)
     # What the checks keep for the next one is large, and is not needed here.
     ignored = shutil.ignore_patterns("incremental", "*_tests*")

@@ -19,8 +19,8 @@ import time
 from pathlib import Path
 
 from lib.countdown import Countdown, Told, used_below
+from lib.crates import TOP
 
-TOP = Path(__file__).resolve().parent.parent.parent
 MEMORY = 2_500_000_000  # that a check takes, in bytes; with each job more, 0.6 of it
 # The seconds of processor time that a crate takes of which none were measured: each, for a line of its src, for such
 # a line where it stands on SQLite, and for linking the program. An earlier check saves two thirds.
@@ -69,13 +69,6 @@ def say(text):
 def crate_of(rt, name, known=None):
     """The crate of this name, with those that it stands on."""
     return rt.rtlib.Crate(str(TOP / "crates" / name), str(TOP), {} if known is None else known)
-
-
-def listed():
-    """The repository's crates in crates.txt, each with those of them that it stands on."""
-    rows = [line.partition("#")[0].partition(":") for line in (TOP / "crates.txt").read_text().splitlines()]
-    below = {head.split()[0]: tail.replace(",", " ").split() for head, _, tail in rows if head.strip()}
-    return {name: [it for it in words if it in below] for name, words in below.items()}
 
 
 # ---- how long it takes
