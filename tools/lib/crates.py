@@ -30,3 +30,9 @@ def with_those_below(names):
     for name in names:
         add(name)
     return found
+
+
+def times():
+    """The seconds of processor time that crates took where that was measured, by tools/times.tsv."""
+    lines = (TOP / "tools" / "times.tsv").read_text(encoding="utf-8").splitlines()
+    return {name: int(took) for name, took, *_ in (it.split("\t") for it in lines if not it.startswith("#"))}

@@ -10,7 +10,6 @@ import ctypes
 import importlib.machinery
 import importlib.util
 import os
-import re
 import shutil
 import signal
 import sys
@@ -19,13 +18,12 @@ import time
 from pathlib import Path
 
 from lib.countdown import Countdown, Told, used_below
-from lib.crates import TOP
+from lib.crates import TOP, times
 
 MEMORY = 2_500_000_000  # that a check takes, in bytes; with each job more, 0.6 of it
 # The seconds of processor time that a crate takes of which none were measured: each, for a line of its src, for such
 # a line where it stands on SQLite, and for linking the program. An earlier check saves two thirds.
 ANY, LINE, SQL_LINE, LINK = 30, 0.11, 0.09, 200
-MEASURED = re.compile(r"\| `(\w+)` \| (\d+)")
 # A check works on gigabytes of small values. Its allocator, mimalloc, takes a twentieth less of its time where it makes
 # its room in one go and keeps what it was given.
 ALLOCATOR = {"MIMALLOC_ARENA_EAGER_COMMIT": "1", "MIMALLOC_PURGE_DELAY": "-1"}
@@ -74,13 +72,6 @@ def crate_of(rt, name, known=None):
 # ---- how long it takes
 
 
-def measured():
-    """The seconds of processor time that each crate took where that was measured, by the table of ARCHITECTURE.md."""
-    table = TOP / "docs" / "ARCHITECTURE.md"
-    rows = table.read_text(encoding="utf-8").splitlines() if table.is_file() else []
-    return {found[1]: int(found[2]) for found in map(MEASURED.match, rows) if found}
-
-
 def seconds(crate, lib, took):
     """About how long a crate takes, where earlier ones took so long."""
     lines = sum((lib.text_of(file) or "").count("\n") for file in lib.files_of(crate.folder) if file.endswith(".rt"))
@@ -94,7 +85,7 @@ class Progress:
 
     def __init__(self, rt, crates):
         self.lanes, self.most = lanes_of(rt), most_jobs(rt)
-        took = measured()
+        took = times()
         self.expected = {it.name: seconds(it, rt.rtlib, took) for it in crates}
         self.waits = {it.name: [below.name for below in it.below() if below in crates] for it in crates}
         self.countdown = Countdown(self.expected, self.waits, self.lanes, self.most, time.monotonic())
