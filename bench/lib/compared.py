@@ -1,13 +1,12 @@
 """The rows of bench/compare: what is asked of the program and of a plain one."""
-import importlib.machinery
-import importlib.util
 import shutil
 import subprocess
 import sys
 
 from lib.baseline import built_baseline
-from lib.mixed import mix
-from lib.programs import BUILT, TOP, free_port
+from lib.mixed import mix as mixed_statements
+from lib.mixes import kinds, mix
+from lib.programs import BUILT, free_port
 from lib.registers import exchanged, grown, ladders, setup
 from lib.requests import AGENTS, DAY, REGISTRAR, enrolments, lodged, lodging, request, stored
 from lib.runs import Command, Commands, Serving, cleared
@@ -15,16 +14,8 @@ from lib.servers import bor_serve
 from lib.users import AGENTS_ASKING, users_mix
 
 LODGINGS = 500
-# How often a request is asked again that bench/wire asks 400 times: a single one takes some microseconds.
+# How often one request is asked again that lib/mixes.py has 400 times: a single one takes some microseconds.
 TIMES = 10
-
-
-def wire_script():
-    """The script bench/wire as a module."""
-    loader = importlib.machinery.SourceFileLoader("wire", str(TOP / "bench" / "wire"))
-    module = importlib.util.module_from_spec(importlib.util.spec_from_loader("wire", loader))
-    loader.exec_module(module)
-    return module
 
 
 class Rows:
@@ -51,13 +42,12 @@ class Rows:
     # ---- requests over memory, and files that are checked
 
     def over_memory(self):
-        wire = wire_script()
         listed = {
             "as users ask": (1.5, enrolments(AGENTS_ASKING), users_mix(2_000)),
-            "one register": (1.5, enrolments(AGENTS), wire.mix(2_000)),
-            "a small register": (None, enrolments(AGENTS), wire.mix(200)),
+            "one register": (1.5, enrolments(AGENTS), mix(2_000)),
+            "a small register": (None, enrolments(AGENTS), mix(200)),
         }
-        for name, (before, asked) in wire.kinds().items():
+        for name, (before, asked) in kinds().items():
             listed[name] = None, before, asked * TIMES if len(set(asked)) == 1 else asked
         for name, (goal, before, asked) in listed.items():
             yield f"memory: {name}", lambda name, words=(goal, before, asked): self.exchanged(name, *words)
@@ -79,7 +69,7 @@ class Rows:
     def checked(self, name, count):
         """The check of a file, less that of an empty one."""
         file, empty, programs = self.folder / f"mix-{count}", self.folder / "empty", []
-        file.write_text(mix(count, 1_000))
+        file.write_text(mixed_statements(count, 1_000))
         empty.touch()
         for words in ([BUILT, "check"], self.plain("check")):
             out = self.folder / f"checked-{len(programs)}"
@@ -91,7 +81,8 @@ class Rows:
 
     def over_a_file(self):
         yield "file: lodging of three statements", self.lodgings
-        yield "file: start over 50,000 records", self.starts
+        for records in (2_000, 10_000, 50_000):
+            yield f"file: start over {records:,} records", lambda name, records=records: self.starts(name, records)
 
     def lodgings(self, name):
         """Lodgings of three statements over a file that has four agents."""
@@ -117,9 +108,9 @@ class Rows:
 
         return Commands(name, LODGINGS, 1.5, programs, compare)
 
-    def starts(self, name):
-        """The start over a file of 50,000 records."""
-        file = grown(self.folder, 50_000)
+    def starts(self, name, records):
+        """The start over a file of so many records."""
+        file = grown(self.folder, records)
         nothing = Command(["true"])
         ours = [Command([BUILT, "serve", "--db", file, "--port", free_port(), "--connections", "0"]), nothing]
         plain = [Command(["sqlite3", file, "SELECT day FROM register"]), nothing] if shutil.which("sqlite3") else None

@@ -5,7 +5,7 @@ from lib.notation import first_request, request_of
 from lib.replies import replies_in, reply_of
 from lib.rows import enrolments
 
-# A client of the tests stops at each tenth byte; bench/hostile-clients asks for each byte.
+# A client of the tests stops at each tenth byte; tests/long/hostile-clients asks for each byte.
 STEP = 10
 
 

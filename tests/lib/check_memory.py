@@ -1,4 +1,4 @@
-"""Each allocation refused in turn, while lists of requests are asked, a report is made, and tables are moved.
+"""Each allocation refused in turn, while lists of requests are asked, a file is checked, a report is made, and tables are moved.
 
 A stand-in for the allocator (`lib/standin.c`) refuses the Nth allocation of a run, for N from a first one on,
 until a run meets no refusal. Such a run ends in `out of memory` with nothing changed, or one of its requests at
@@ -16,7 +16,7 @@ from pathlib import Path
 from lib.check_migration import DATED, dumped, made
 from lib.checking import DB, EVIDENCED, REPORT, Mismatch, is_so
 from lib.notation import ROWS
-from lib.program import REGISTER, Server
+from lib.program import REGISTER, TOP, Server
 from lib.replies import exit_status, replies_in
 from lib.standins import ENROLMENTS, NOT_RUN, PROBES, built, cleared, compared, ended_as, requests_of, stood_in, stored
 from lib.standins import wanted
@@ -27,6 +27,9 @@ START = "start.db"
 UNAVAILABLE = (ROWS / "unavailable.reply").read_bytes()
 OUT_OF_MEMORY = (3, b"", b"bor: out of memory\n")
 FIRST = "alder lodge f1 2024-02-01 FIRST"
+# A file, and what a check of it prints.
+CHECKED = (TOP / "examples" / "first-lodging.json").read_bytes()
+CHECK = b"filing 1 published\n1\tentity\tnew\tc1\te1\n2\tperson\tnew\tc1\tp1\n3\trelationship\tnew\tc1\tr1\n"
 NO_TOKEN = r"raw GET /filings HTTP/1.1\r\n\r\n"
 CHUNKED = r"raw GET /filings HTTP/1.1\r\nTransfer-Encoding: chunked\r\n\r\n"
 
@@ -259,6 +262,23 @@ class Command:
         return "out of memory" if told == OUT_OF_MEMORY else "the same"
 
 
+class Checked(Command):
+    """A check of a file, which prints its statements or is out of memory."""
+
+    kept_in = "memory"
+
+    def __init__(self, folder):
+        self.folder = folder
+
+    def run(self, bor):
+        return bor.run(["check"], self.folder, CHECKED)
+
+    def judged(self, ran):
+        is_out = (ran.status, ran.output, ran.errors) == OUT_OF_MEMORY
+        is_so(is_out or (ran.status, ran.output, ran.errors) == (0, CHECK, b""), f"wanted {CHECK!r}, had {ran.told()}")
+        return "out of memory" if is_out else "the same"
+
+
 def report_made(bor, folder, *more, text=REPORT):
     is_so(bor.exchange(requests_of([*ENROLMENTS, FIRST]), folder, START).status == 0, "nothing is lodged")
     words = ["--viewer", "alder", "--agent", "alder", "--declaration", "c1", "--record", "e1"]
@@ -330,6 +350,7 @@ def ways(bor):
         yield f"{name} over memory", lambda folder, asks=asks: OverMemory(bor, folder, asks)
         yield f"{name} over a file", lambda folder, asks=asks, one=is_first: OverFile(bor, folder, asks, one, one)
         yield f"{name} on a socket", lambda folder, asks=asks, one=is_first: OnSocket(bor, folder, asks, False, one)
+    yield "a check of a file", Checked
     yield "a report", lambda folder: report_made(bor, folder)
     yield "a report with its evidence", lambda folder: evidence_made(bor, folder)
     yield "tables moved", lambda folder: tables_moved(bor, folder)

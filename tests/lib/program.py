@@ -37,9 +37,9 @@ class Bor:
         """The same program, which sees these variables too."""
         return type(self)(self.path, variables)
 
-    def run(self, words, folder, stdin=b""):
+    def run(self, words, folder, stdin=b"", seconds=SECONDS):
         """A run on these words in a folder."""
-        how = {"cwd": folder, "capture_output": True, "timeout": SECONDS, "env": {**os.environ, **self.variables}}
+        how = {"cwd": folder, "capture_output": True, "timeout": seconds, "env": {**os.environ, **self.variables}}
         return Ended(subprocess.run([self.path, *words], input=stdin, **how))
 
     def exchange(self, requests, folder, db=None):
