@@ -31,11 +31,12 @@ def linked(source, target):
         shutil.copy2(source, target)
 
 
-def made(folder, name, text, crates, libraries="", modules=()):
-    """Makes a program's crate in a repository of its own, beside links to these crates and those below them; it may take modules."""
+def made(folder, name, crates, libraries, modules):
+    """Makes a crate of a program of bench/programs in a repository of its own, beside links to these crates and those below them;
+    it may take modules. (Its file has another ending there, since `rt ci` takes no .rt file outside the crates.)"""
     crate, needed = folder / "crates" / name, with_those_below(crates)
     (crate / "src").mkdir(parents=True)
-    (crate / "src" / "main.rt").write_text(text)
+    shutil.copy(TOP / "bench" / "programs" / f"{name}.rattle", crate / "src" / "main.rt")
     for module in modules:
         shutil.copy(module, crate / "src")
     lists = {**{it: below for it, below in listed().items() if it in needed}, name: [*needed, *libraries.split()]}
@@ -48,11 +49,11 @@ def made(folder, name, text, crates, libraries="", modules=()):
     return crate
 
 
-def built(folder, name, text, crates, libraries="", modules=()):
+def built(folder, name, crates, libraries="", modules=()):
     """Proves and builds the program over the crates as they are built here, which `rt lib` does first where it has to."""
     for it in crates:
         subprocess.run([RT, "lib"], cwd=TOP / "crates" / it, stdout=subprocess.DEVNULL, check=True)
-    crate = made(folder, name, text, crates, libraries, modules)
+    crate = made(folder, name, crates, libraries, modules)
     ran = subprocess.run([RT, "run"], cwd=crate, capture_output=True, text=True)
     if ran.returncode:
         sys.exit(ran.stdout + ran.stderr)

@@ -1,15 +1,14 @@
 //! The baseline: a register in memory with hash maps, `serde_json` and `httparse`, with no proofs. It checks and refuses what the
-//! register does, and tells the same replies. Usage: wire-baseline TIMES SETUP ASKED OUT for `bench/wire`; wire-baseline exchange
-//! REQUEST.. for a run over files of requests; wire-baseline check FILE; wire-baseline serve PORT CONNECTIONS REQUEST.. serves the
-//! register that these requests leave (`bench/serve-baseline.rs`). With the feature `file`, wire-baseline file PATH REQUEST.. keeps the
-//! register in a file, and wire-baseline serve-file PATH PORT CONNECTIONS serves it: `bench/file-baseline.rs`.
+//! register does, and tells the same replies. Usage: baseline exchange REQUEST.. for a run over files of requests; baseline check FILE;
+//! baseline serve PORT CONNECTIONS REQUEST.. serves the register that these requests leave (`serve.rs`). With the feature `file`,
+//! baseline file PATH REQUEST.. keeps the register in a file, and baseline serve-file PATH PORT CONNECTIONS serves it (`file.rs`).
 
 use serde::Serialize;
 use serde_json::Value;
 use std::{collections::{BTreeMap, BTreeSet, HashMap, HashSet}, env, fs, io::{self, Write}};
-mod asked; // bench/asked-baseline.rs
+mod asked;
 #[cfg(feature = "file")] mod file;
-mod read; // bench/read-baseline.rs
+mod read;
 mod serve;
 use asked::Request;
 
@@ -296,12 +295,6 @@ fn check(path: &str) -> io::Result<String> {
         }
     })
 }
-fn tell_time(word: &str) {
-    extern "C" { fn clock_gettime(clock: i32, time: *mut [i64; 2]) -> i32; }
-    let mut time = [0; 2];
-    unsafe { clock_gettime(2, &mut time) }; // CLOCK_PROCESS_CPUTIME_ID
-    println!("{word} {}", time[0] * 1_000_000_000 + time[1]);
-}
 const DAY: &str = "2024-02-01";
 /// Answers the requests in these files, and writes the replies.
 fn exchange(files: &[String]) -> io::Result<()> {
@@ -316,20 +309,6 @@ fn serve_after(port: &str, connections: &str, files: &[String]) -> io::Result<()
     for file in files { register.answer(&fs::read(file)?); }
     serve::serve(port.parse().unwrap_or(0), connections.parse().unwrap_or(0), |input| bytes_of(register.answer(input)))
 }
-/// Times the requests of a file in so many new registers, after those of another file.
-fn replay(times: &str, setup: &str, asked: &str, out: &str) -> io::Result<()> {
-    let read = |path: &str| -> io::Result<Vec<Vec<u8>>> { Ok(fs::read(path)?.split(|b| *b == 30).map(<[u8]>::to_vec).collect()) };
-    let (setup, asked) = (read(setup)?, read(asked)?);
-    for _ in 0..times.parse().unwrap_or(1) {
-        let mut register = Register::new(DAY);
-        for input in &setup { register.answer(input); }
-        tell_time("from");
-        let replies: Vec<Vec<u8>> = asked.iter().map(|input| bytes_of(register.answer(input))).collect();
-        tell_time("to");
-        fs::write(out, replies.iter().fold(Vec::new(), |mut all, r| { all.extend(r); all.push(30); all }))?;
-    }
-    Ok(())
-}
 fn main() -> io::Result<()> {
     let words: Vec<String> = env::args().collect();
     match words[1].as_str() {
@@ -338,6 +317,6 @@ fn main() -> io::Result<()> {
         "exchange" => exchange(&words[2..]),
         "serve" => serve_after(&words[2], &words[3], &words[4..]),
         "check" => io::stdout().write_all(check(&words[2])?.as_bytes()),
-        times => replay(times, &words[2], &words[3], &words[4]),
+        other => Err(io::Error::other(format!("no command {other}"))),
     }
 }
