@@ -2,15 +2,18 @@
 
 The crates have the shape of a build of the program: a long chain, and others beside it.
 """
+import os
 import re
+import subprocess
 import sys
+from pathlib import Path
 
 from lib.checking import check, is_so
 from lib.program import TOP
 
 sys.path.append(str(TOP / "tools" / "lib"))
 
-from countdown import Countdown, Told
+from countdown import Countdown, Told, used_below
 
 STEP = 3
 LANES = 4
@@ -114,3 +117,26 @@ def the_countdown_tells_a_range_while_it_cannot_know(_bor, _folder):
     told = [minutes_in(words)[0] for _, _, words in lines]
     rises = sum(one < other for one, other in zip(told, told[1:]))
     is_so(rises <= 4, f"it rises {rises} times")
+
+
+# A process whose child works for a while and ends; it isn't waited for before a line comes.
+WORKING = """
+import subprocess, sys, time
+child = subprocess.Popen([sys.executable, "-c", "import time\\nwhile time.process_time() < 0.4: pass"], stdout=subprocess.PIPE)
+child.stdout.read()
+print(flush=True)
+input()
+"""
+
+
+@check
+def the_processor_time_of_checks_is_counted(_bor, folder):
+    """the processor time that processes below a script had is told by the folder that each works in, of one that has ended too"""
+    place = Path(folder, "working")
+    place.mkdir()
+    pipes = {"stdin": subprocess.PIPE, "stdout": subprocess.PIPE}
+    with subprocess.Popen([sys.executable, "-c", WORKING], cwd=place, **pipes) as ran:
+        ran.stdout.readline()
+        told = used_below(os.getpid()).get(place.name, 0)
+        ran.communicate(b"\n")
+    is_so(0.3 < told < 5, f"{told} seconds are told of 0.4 and more")

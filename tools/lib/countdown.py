@@ -4,6 +4,7 @@ Each has the processor time that it is expected to take. While they run, two thi
 by those that have ended, and by those that have passed what was expected. And the pace: how long a machine that has
 other work takes for what the processors of an idle one do in a second, the last minutes above all.
 """
+import contextlib
 import os
 from pathlib import Path
 
@@ -26,24 +27,22 @@ class Countdown:
 
     def __init__(self, expected, waits, lanes, most, now):
         self.expected, self.waits, self.lanes, self.most, self.at = expected, waits, lanes, most, now
-        self.used, self.seen, self.ended, self.running = dict.fromkeys(expected, 0.0), {}, set(), {}
+        self.used, self.running, self.ended = dict.fromkeys(expected, 0.0), {}, set()
         # the seconds since the start, those long ago counted less, and as many of an idle machine as did so much
         self.clock = self.idle = HALVED * IDLE
 
     def see(self, now, used, running, ended):
-        """What was seen last: the processor time of each crate's processes of this moment, which crates are running
-        with how many jobs, and which have ended."""
+        """What was seen last: the processor time that each crate's processes of this moment have had, which crates are
+        running with how many jobs, and which have ended."""
         had, seconds = sum(self.used.values()), now - self.at
-        for name in self.expected:
-            new, seen = used.get(name, 0), self.seen.get(name, 0)
-            # (less than before is that of other processes)
-            self.used[name] += new - seen if new >= seen else new
+        # (what a process had may be missing while it ends)
+        self.used = {name: max(before, used.get(name, 0)) for name, before in self.used.items()}
         wanted = min(sum(map(processors_for, self.running.values())), self.lanes)
         if wanted:
             faded = 0.5 ** (seconds / HALVED)
             self.clock = self.clock * faded + seconds
             self.idle = self.idle * faded + (sum(self.used.values()) - had) / wanted
-        self.at, self.seen, self.running, self.ended = now, used, dict(running), set(ended)
+        self.at, self.running, self.ended = now, dict(running), set(ended)
 
     def dearness(self):
         """How many times what was expected crates take here, and how many seconds of those expected tell so."""
@@ -127,18 +126,18 @@ class Told:
 
 def used_below(process, ticks=os.sysconf("SC_CLK_TCK")):
     """The seconds of processor time that the processes below this one have had, by the name of the folder that each works in."""
-    below, found = {}, {}
+    below, places, found = {}, {}, {}
     for folder in Path("/proc").glob("[0-9]*"):
-        try:
+        with contextlib.suppress(OSError):  # (it has ended)
             words = (folder / "stat").read_bytes().rpartition(b")")[2].split()
-            place = os.path.basename(os.readlink(folder / "cwd"))
-        except OSError:  # it has ended
-            continue
-        # (its own time, and that of those it waited for)
-        below.setdefault(int(words[1]), []).append((int(folder.name), place, sum(map(int, words[11:15])) / ticks))
-    left = below.get(process, [])
+            # (its own time, and that of those it waited for)
+            below.setdefault(int(words[1]), []).append((int(folder.name), sum(map(int, words[11:15])) / ticks))
+            places[int(folder.name)] = os.path.basename(os.readlink(folder / "cwd"))
+    left = [(number, seconds, None) for number, seconds in below.get(process, [])]
     while left:
-        number, place, seconds = left.pop()
+        number, seconds, place_above = left.pop()
+        # (one that has ended, and isn't waited for yet, has no folder)
+        place = places.get(number, place_above)
         found[place] = found.get(place, 0) + seconds
-        left += below.get(number, [])
+        left += [(*it, place) for it in below.get(number, [])]
     return found
