@@ -4,6 +4,7 @@ ghost use Rattle.std.specs.Prelude.{◌≡◌, ◌++◌, [], true, None, Some, I
 ghost use Rattle.std.specs.List.{cons_option, filter_map, last_or};
 ghost use Rattle.bor_records.specs.Links.Answers.{AreLinksInto, only_into};
 ghost use Rattle.bor_records.specs.Links.ByKey.{node_at};
+ghost use Rattle.bor_records.specs.Links.Nodes.{same_node};
 ghost use Rattle.bor_records.specs.Links.Rows.{info_stated, is_entity_info, is_some_info, link_between, node_with, nodes_of};
 ghost use Rattle.bor_records.specs.Links.Series.{open_at};
 ghost use Rattle.bor_records.specs.Links.Shown.{info_of};
@@ -258,38 +259,42 @@ pub(crate) fn node_in(sight: &Sight, node: &Node) -> Result<Option<OpenNode>, Al
     }
 }
 
-// The link between two records into an open entity: where that is the subject, and the party is
-// open.
-fn link_between(
+// The link from a party into an open entity, where the party is open.
+fn link_from(
     sight: &Sight,
     node: &Node,
     rec: Ident,
     party: Node,
-    subject: Node,
     interests: &[Interest],
-) -> Option<Link>
+) -> Result<Option<Link>, AllocError>
     requires { IsIndexed sight.now }
-    ensures { is_entity_info (info_of (in_sight sight.now) node.now) ≡ true
-        → result ≡ only_into node.now
+    ensures { IfOk result (λ link. is_entity_info (info_of (in_sight sight.now) node.now) ≡ true
+        → link ≡ only_into node.now
         (link_between sight.now.day
-        (nodes_of sight.now.day (rows_in_sight sight.now)) rec party subject interests.now) }
+        (nodes_of sight.now.day (rows_in_sight sight.now)) rec party node.now interests.now)) }
 {
-    if subject != *node {
-        return None;
-    }
     if !is_node(sight, &party) {
-        return None;
+        return Ok(None);
     }
-    Some(Link {
+    Ok(Some(Link {
         rec,
-        subject,
+        subject: node.copy(sight.alloc)?,
         party,
         stake: stake_of(interests, sight.day),
         holding: holding_of(interests, sight.day),
-    })
+    }))
 }
 
-// The link into an open entity that an agent's statement makes.
+// Whether an agent's statement names the node by this record of its declaration.
+fn is_named(node: &Node, agent: &AgentName, declaration: &Ident, rec: &Ident) -> bool
+    ensures { result ≡ same_node node.now
+        (record { agent = agent.now; declaration = declaration.now; rec = rec.now }) }
+{
+    node.agent == *agent && node.declaration == *declaration && node.rec == *rec
+}
+
+// The link into an open entity that an agent's statement makes. The texts of the entity, which are
+// those of the statement, are at hand.
 fn link_stated(
     sight: &Sight,
     node: &Node,
@@ -307,11 +312,12 @@ fn link_stated(
             party: Some(party),
             interests,
         } => {
-            let declaration = &statement.declaration;
-            let subject = node_named(sight.alloc, agent, declaration, subject)?;
-            let party = node_named(sight.alloc, agent, declaration, party)?;
+            if !is_named(node, agent, &statement.declaration, subject) {
+                return Ok(None);
+            }
+            let party = node_named(sight.alloc, &node.agent, &node.declaration, party)?;
             let rec = statement.rec.copy(sight.alloc)?;
-            Ok(link_between(sight, node, rec, party, subject, interests.as_slice()))
+            link_from(sight, node, rec, party, interests.as_slice())
         }
         _ => Ok(None),
     }
@@ -372,7 +378,10 @@ pub(crate) fn links_told(sight: &Sight, node: &Node) -> Result<Vec<Link>, AllocE
     if !is_entity(sight, node) {
         return Ok(Vec::new(sight.alloc));
     }
-    let found = nodes_copied(sight.alloc, sight.index.naming(node))?;
-    let records = once(found)?;
+    let naming = sight.index.naming(node);
+    if naming.len() < 2 {
+        return links_of(sight, node, naming);
+    }
+    let records = once(nodes_copied(sight.alloc, naming)?)?;
     links_of(sight, node, &records)
 }
