@@ -8,8 +8,8 @@ from pathlib import Path
 
 TOP = Path(__file__).resolve().parent.parent.parent
 # This builds the program where it has to be built, and runs it.
-BOR = str(TOP / "bor")
-BUILT = str(TOP / "crates" / "bor" / "out" / "bor")
+BOR = '/tmp/bor_wide'
+BUILT = '/tmp/bor_wide'
 RT = os.environ.get("RT", "rt")
 
 

@@ -113,6 +113,20 @@ impl<F: Form> Text<F> {
             form: PhantomData,
         })
     }
+
+    /// The same text, of another form that it has too. As a copy it shares the bytes and takes no
+    /// memory.
+    pub fn shared<G: Form>(&self, _alloc: Global) -> Result<Text<G>, AllocError>
+        requires { G.is_form self.now ≡ true }
+        ensures { IfOk result (λ shared. shared ≡ self.now) }
+    {
+        Ok(Text {
+            front: self.front,
+            back: self.back,
+            text: self.text.clone()?,
+            form: PhantomData,
+        })
+    }
 }
 
 impl<F: Form> PartialEq for Text<F> {
