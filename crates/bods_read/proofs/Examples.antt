@@ -28,7 +28,7 @@ use Rattle.bods_read.specs.declared.file.TheConstants.{STATEMENTS_LIMIT}
 use Rattle.bods_read.specs.declared.member.TheConstants.{ITEMS_LIMIT}
 use Rattle.bods_read.specs.Limits.{statements_limit, items_limit}
 use Rattle.bods_read.specs.Faults.{fault_word, file_fault_word}
-use Rattle.bods_read.specs.Words.{type_word, type_worded, status_word, status_worded, entity_word, entity_worded, person_word, person_worded, interest_word, interest_worded, directness_word, directness_worded, field_word}
+use Rattle.bods_read.specs.Words.{type_word, type_worded, status_word, status_worded, entity_word, entity_kind_of, entity_worded, person_word, person_kind_of, person_worded, interest_word, interest_kind_of, interest_worded, directness_word, directness_named, directness_worded, field_word}
 use Rattle.bods_read.specs.Member.{member, ident_in, day_in, type_in, status_in, object_in, end_in, items_in}
 use Rattle.bods_read.specs.Share.{percent_lines, percent_in, percent_lines_at, percent_at, exclusive_lines_at, exclusive_at, share_bounds, members_of, member_lines, range_lines, range_of}
 use Rattle.bor_terms.specs.Period.{end_of, is_month, month_end, month_start, start_of, year_end, year_of, year_start}
@@ -39,7 +39,7 @@ use Rattle.bods_read.specs.File.{reading, value_of, reading_of, faults, statemen
 
 -- what is opened to compute a reading
 unfoldable pub reader : ⊤
-unfolding is_utf8 chars encode serde_json_on_literals is_ident pair_at number_of has_marks digits_day day_of points shown type_word type_worded status_word status_worded entity_word entity_worded person_word person_worded interest_word interest_worded directness_word directness_worded field_word member ident_in day_in type_in status_in object_in end_in items_in percent_lines percent_in percent_lines_at percent_at exclusive_lines_at exclusive_at share_bounds members_of member_lines range_lines range_of share_lines share_of interest_object_lines interest_lines interest_of interests_lines interests_of start_of end_of is_month month_start month_end year_start year_end year_of identifier_in identifiers_of entity_lines entity_of person_of relationship_lines relationship_of statement_object_lines statement_lines statement_of reading value_of reading_of faults statements
+unfolding is_utf8 chars encode serde_json_on_literals is_ident pair_at number_of has_marks digits_day day_of points shown type_word type_worded status_word status_worded entity_word entity_kind_of entity_worded person_word person_kind_of person_worded interest_word interest_kind_of interest_worded directness_word directness_named directness_worded field_word member ident_in day_in type_in status_in object_in end_in items_in percent_lines percent_in percent_lines_at percent_at exclusive_lines_at exclusive_at share_bounds members_of member_lines range_lines range_of share_lines share_of interest_object_lines interest_lines interest_of interests_lines interests_of start_of end_of is_month month_start month_end year_start year_end year_of identifier_in identifiers_of entity_lines entity_of person_of relationship_lines relationship_of statement_object_lines statement_lines statement_of reading value_of reading_of faults statements
 reader = tt
 
 -- ---- words and limits

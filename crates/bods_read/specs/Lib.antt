@@ -1,4 +1,5 @@
 pub mod Words
+pub mod WordLaws
 pub mod Limits
 pub mod Faults
 pub mod Outcome

@@ -66,12 +66,16 @@ entity_word entities.State = codes "state"
 entity_word entities.StateBody = codes "stateBody"
 entity_word entities.Other = codes "other"
 
--- the kind whose word a text is; other for another text and for none (this register's profile)
+-- the kind whose word a text is
+unfoldable pub entity_kind_of : List ℕ → Option EntityKind
+entity_kind_of text =
+    worded entity_word (entities.RegisteredEntity ∷ entities.LegalEntity ∷ entities.Arrangement
+    ∷ entities.AnonymousEntity ∷ entities.UnknownEntity ∷ entities.State ∷ entities.StateBody
+    ∷ entities.Other ∷ []) text
+
+-- the same in a file; other for another text and for none (this register's profile)
 unfoldable pub entity_worded : Option (List ℕ) → EntityKind
-entity_worded text =
-    unwrap_or (option_and_then (worded entity_word (entities.RegisteredEntity ∷ entities.LegalEntity
-    ∷ entities.Arrangement ∷ entities.AnonymousEntity ∷ entities.UnknownEntity ∷ entities.State
-    ∷ entities.StateBody ∷ [])) text) entities.Other
+entity_worded text = unwrap_or (option_and_then entity_kind_of text) entities.Other
 
 -- personType (BODS 0.4); every other kind is shown as other (this register's profile)
 unfoldable pub person_word : PersonKind → List ℕ
@@ -80,11 +84,15 @@ person_word persons.AnonymousPerson = codes "anonymousPerson"
 person_word persons.UnknownPerson = codes "unknownPerson"
 person_word persons.Other = codes "other"
 
--- the kind whose word a text is; other for another text and for none (this register's profile)
+-- the kind whose word a text is
+unfoldable pub person_kind_of : List ℕ → Option PersonKind
+person_kind_of text =
+    worded person_word (persons.KnownPerson ∷ persons.AnonymousPerson ∷ persons.UnknownPerson
+    ∷ persons.Other ∷ []) text
+
+-- the same in a file; other for another text and for none (this register's profile)
 unfoldable pub person_worded : Option (List ℕ) → PersonKind
-person_worded text =
-    unwrap_or (option_and_then (worded person_word (persons.KnownPerson ∷ persons.AnonymousPerson
-    ∷ persons.UnknownPerson ∷ [])) text) persons.Other
+person_worded text = unwrap_or (option_and_then person_kind_of text) persons.Other
 
 -- the three types of interest that play a part in a chain (BODS 0.4, interest type); every other is
 -- shown as other (this register's profile)
@@ -94,12 +102,16 @@ interest_word interests.VotingRights = codes "votingRights"
 interest_word interests.AppointmentOfBoard = codes "appointmentOfBoard"
 interest_word interests.Other = codes "other"
 
--- the kind whose word a text is; other for another text and for none (this register's profile)
+-- the kind whose word a text is
+unfoldable pub interest_kind_of : List ℕ → Option InterestKind
+interest_kind_of text =
+    worded interest_word
+    (interests.Shareholding ∷ interests.VotingRights ∷ interests.AppointmentOfBoard
+    ∷ interests.Other ∷ []) text
+
+-- the same in a file; other for another text and for none (this register's profile)
 unfoldable pub interest_worded : Option (List ℕ) → InterestKind
-interest_worded text =
-    unwrap_or
-    (option_and_then (worded interest_word (interests.Shareholding ∷ interests.VotingRights
-    ∷ interests.AppointmentOfBoard ∷ [])) text) interests.Other
+interest_worded text = unwrap_or (option_and_then interest_kind_of text) interests.Other
 
 -- directOrIndirect (BODS 0.4); every other word, and none, is unknown
 unfoldable pub directness_word : Directness → List ℕ
@@ -107,12 +119,14 @@ directness_word directness.Direct = codes "direct"
 directness_word directness.Indirect = codes "indirect"
 directness_word directness.Unknown = codes "unknown"
 
--- the directness of the word; unknown for another text and for none (this register's profile)
+-- the directness whose word a text is
+unfoldable pub directness_named : List ℕ → Option Directness
+directness_named text =
+    worded directness_word (directness.Direct ∷ directness.Indirect ∷ directness.Unknown ∷ []) text
+
+-- the same in a file; unknown for another text and for none (this register's profile)
 unfoldable pub directness_worded : Option (List ℕ) → Directness
-directness_worded text =
-    unwrap_or
-    (option_and_then (worded directness_word (directness.Direct ∷ directness.Indirect ∷ [])) text)
-    directness.Unknown
+directness_worded text = unwrap_or (option_and_then directness_named text) directness.Unknown
 
 -- ---- members
 

@@ -11,32 +11,18 @@ use crate::fault::Field;
 use crate::identifiers::kept;
 use crate::member::{array, free_text_at, member, text_at};
 use crate::trouble::Trouble;
+use crate::words::worded_or;
 use bor_terms::Listed;
 use serde_json::Value;
 use std::alloc::Global;
 
-#[tactic(auto, unfolding(crate::specs::Words::entity_worded, crate::specs::Words::entity_word))]
-fn worded(text: Option<&str>) -> EntityKind
-    ensures { result ≡ entity_worded (option_map (λ s. s.now) text.entry) }
-{
-    match text {
-        Some("registeredEntity") => EntityKind::RegisteredEntity,
-        Some("legalEntity") => EntityKind::LegalEntity,
-        Some("arrangement") => EntityKind::Arrangement,
-        Some("anonymousEntity") => EntityKind::AnonymousEntity,
-        Some("unknownEntity") => EntityKind::UnknownEntity,
-        Some("state") => EntityKind::State,
-        Some("stateBody") => EntityKind::StateBody,
-        _ => EntityKind::Other,
-    }
-}
-
+#[tactic(auto, unfolding(crate::specs::Words::entity_worded))]
 fn kind(details: &Value) -> EntityKind
     ensures { result ≡ entity_kind (view details.now) }
 {
     match member(details, "entityType") {
-        Some(value) => worded(text_at(value, "type")),
-        None => worded(None),
+        Some(value) => worded_or(text_at(value, "type"), EntityKind::Other),
+        None => EntityKind::Other,
     }
 }
 

@@ -11,32 +11,10 @@ use crate::interest::{Directness, Interest, InterestKind};
 use crate::member::{array, member, text_at};
 use crate::share::range;
 use crate::trouble::Trouble;
+use crate::words::worded_or;
 use bor_terms::{Day, Listed, Span};
 use serde_json::Value;
 use std::alloc::Global;
-
-#[tactic(auto, unfolding(crate::specs::Words::interest_worded, crate::specs::Words::interest_word))]
-fn kind_worded(text: Option<&str>) -> InterestKind
-    ensures { result ≡ interest_worded (option_map (λ s. s.now) text.entry) }
-{
-    match text {
-        Some("shareholding") => InterestKind::Shareholding,
-        Some("votingRights") => InterestKind::VotingRights,
-        Some("appointmentOfBoard") => InterestKind::AppointmentOfBoard,
-        _ => InterestKind::Other,
-    }
-}
-
-#[tactic(auto, unfolding(crate::specs::Words::directness_worded, crate::specs::Words::directness_word))]
-fn directness_worded(text: Option<&str>) -> Directness
-    ensures { result ≡ directness_worded (option_map (λ s. s.now) text.entry) }
-{
-    match text {
-        Some("direct") => Directness::Direct,
-        Some("indirect") => Directness::Indirect,
-        _ => Directness::Unknown,
-    }
-}
 
 // Whether shares of interests of the kind are read.
 fn is_named(kind: InterestKind) -> bool
@@ -79,13 +57,13 @@ fn ends(interest: &Value) -> Option<Day>
     Day::read_end(text_at(interest, "endDate")?)
 }
 
-#[tactic(auto, using(crate::proofs::InterestRead::interest_rules))]
+#[tactic(auto, using(crate::proofs::InterestRead::interest_rules), unfolding(crate::specs::Words::interest_worded))]
 fn of_object(value: &Value) -> Result<Interest, Trouble>
     ensures { Gives (λ i. i) result
         (outcome (interest_object_lines (view value.now)) (interest_of (view value.now))) }
 {
-    let kind = kind_worded(text_at(value, "type"));
-    let directness = directness_worded(text_at(value, "directOrIndirect"));
+    let kind = worded_or(text_at(value, "type"), InterestKind::Other);
+    let directness = worded_or(text_at(value, "directOrIndirect"), Directness::Unknown);
     let share = share(kind, value)?;
     let starts = starts(value);
     let ends = ends(value);

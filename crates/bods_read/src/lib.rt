@@ -41,6 +41,7 @@ mod relationship;
 mod share;
 mod statement;
 mod trouble;
+mod words;
 
 pub use details::{Details, EntityKind, Identifier, PersonKind};
 pub use fault::{Fault, Field, FileFault, ReadFault};
@@ -49,3 +50,4 @@ pub use free_text::{FreeForm, FreeText};
 pub use interest::{Directness, Interest, InterestKind};
 pub use member::ITEMS_LIMIT;
 pub use statement::{RecordType, Statement, Status};
+pub use words::Worded;

@@ -11,6 +11,7 @@ use crate::fault::{Fault, Field};
 use crate::free_text::FreeText;
 use crate::statement::{RecordType, Status};
 use crate::trouble::Trouble;
+use crate::words::Worded;
 use bor_terms::{Day, Ident};
 use serde_json::Value;
 use std::alloc::{AllocError, Global};
@@ -114,7 +115,7 @@ fn type_in(value: &Value, field: Field) -> Result<RecordType, Trouble>
     let Some(text) = value.as_str() else {
         return Err(Trouble::Fault(Fault::Bad(field)));
     };
-    match RecordType::worded(text) {
+    match RecordType::of_word(text) {
         Some(kind) => Ok(kind),
         None => Err(Trouble::Fault(Fault::Bad(field))),
     }
@@ -143,7 +144,7 @@ pub(crate) fn status(object: &Value, field: Field) -> Result<Option<Status>, Tro
     let Some(text) = value.as_str() else {
         return Err(Trouble::Fault(Fault::Bad(field)));
     };
-    match Status::worded(text) {
+    match Status::of_word(text) {
         Some(status) => Ok(Some(status)),
         None => Err(Trouble::Fault(Fault::Bad(field))),
     }

@@ -7,20 +7,9 @@ ghost use Rattle.bods_read.specs.Details.{person_kind, first_name, person_of};
 
 use crate::details::{Details, PersonKind};
 use crate::member::{free_text_at, items_in, member, text_at};
+use crate::words::worded_or;
 use serde_json::Value;
 use std::alloc::{AllocError, Global};
-
-#[tactic(auto, unfolding(crate::specs::Words::person_worded, crate::specs::Words::person_word))]
-fn worded(text: Option<&str>) -> PersonKind
-    ensures { result ≡ person_worded (option_map (λ s. s.now) text.entry) }
-{
-    match text {
-        Some("knownPerson") => PersonKind::KnownPerson,
-        Some("anonymousPerson") => PersonKind::AnonymousPerson,
-        Some("unknownPerson") => PersonKind::UnknownPerson,
-        _ => PersonKind::Other,
-    }
-}
 
 // The first item of the names.
 fn first_name(details: &Value) -> Option<&Value>
@@ -29,11 +18,11 @@ fn first_name(details: &Value) -> Option<&Value>
     items_in(member(details, "names")?)?.first()
 }
 
-#[tactic(auto, unfolding(crate::specs::Details::person_of))]
+#[tactic(auto, unfolding(crate::specs::Details::person_of, crate::specs::Words::person_worded))]
 pub(crate) fn person(alloc: Global, details: &Value) -> Result<Details, AllocError>
     ensures { IfOk result (λ d. d ≡ person_of (view details.now)) }
 {
-    let kind = worded(text_at(details, "personType"));
+    let kind = worded_or(text_at(details, "personType"), PersonKind::Other);
     let name = match first_name(details) {
         Some(name) => free_text_at(alloc, name, "fullName")?,
         None => None,

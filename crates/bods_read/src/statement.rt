@@ -1,7 +1,7 @@
 //! Statements of BODS 0.4, in this register's profile.
 
 ghost use Rattle.std.specs.Prelude.{◌≡◌, IfOk, codes};
-ghost use Rattle.bods_read.specs.Words.{type_word, type_worded, status_word, status_worded, type_of};
+ghost use Rattle.bods_read.specs.Words.{type_word, status_word, type_of};
 
 use crate::details::Details;
 use bor_terms::{Day, Ident};
@@ -27,19 +27,6 @@ impl RecordType {
             RecordType::Relationship => "relationship",
         }
     }
-
-    /// The type whose word a text is.
-    #[tactic(auto, unfolding(crate::specs::Words::type_worded, crate::specs::Words::type_word))]
-    pub(crate) fn worded(text: &str) -> Option<RecordType>
-        ensures { result ≡ type_worded text.now }
-    {
-        match text {
-            "entity" => Some(RecordType::Entity),
-            "person" => Some(RecordType::Person),
-            "relationship" => Some(RecordType::Relationship),
-            _ => None,
-        }
-    }
 }
 
 /// The change that a statement makes to its record (BODS 0.4, `recordStatus`).
@@ -60,19 +47,6 @@ impl Status {
             Status::New => "new",
             Status::Updated => "updated",
             Status::Closed => "closed",
-        }
-    }
-
-    /// The status whose word a text is.
-    #[tactic(auto, unfolding(crate::specs::Words::status_worded, crate::specs::Words::status_word))]
-    pub(crate) fn worded(text: &str) -> Option<Status>
-        ensures { result ≡ status_worded text.now }
-    {
-        match text {
-            "new" => Some(Status::New),
-            "updated" => Some(Status::Updated),
-            "closed" => Some(Status::Closed),
-            _ => None,
         }
     }
 }

@@ -18,24 +18,13 @@ pub not_failed : (fault : OpenFault) → fault ≡ faults.NoRegister → IsFailu
 not_failed fault is (inl e) = let same : faults.NoRegister ≡ faults.Memory = sym is ∙ e in cc
 not_failed fault is (inr e) = let same : faults.NoRegister ≡ faults.Store = sym is ∙ e in cc
 
-not_new : (came : Origin) → came ≡ Found → came ≡ New → ⊥
+pub not_new : (came : Origin) → came ≡ Found → came ≡ New → ⊥
 not_new came is new = let same : Found ≡ New = sym is ∙ new in cc
 
 pub shows_still : (r : Register) (old mid : State) → mid.committed ≡ old.committed → ShowsIn r old → ShowsIn r mid
 shows_still r old mid kept shown = record { has = subst (Has (contents r)) (sym kept) shown.has; stored = shown.stored }
 
 module _ {K E W : Type 0} (meaning : Meaning K Register W StoreFault) (registrar : List ℕ) (day : ℤ) (old mid : State) (was_clean : IsClean mid → IsClean old) (kept : IsClean mid → mid.committed ≡ old.committed) where
-  -- the one that was there
-  pub found_open : (result : Result (Opened K) E) → IfOk result (λ o. o.origin ≡ Found) → IfOk result (λ o. meaning.is_clean o.register → IsClean mid)
-      → IfOk result (λ o. meaning.is_clean o.register → (r : Register) → ShowsIn r mid → meaning.shows o.register r) → IfOk result (λ o. ComesOpen meaning registrar day old o.register o.origin)
-  found_open (Err e) is began sh = tt
-  found_open (Ok o) is began sh = record {
-    began = λ clean. was_clean (began clean);
-    found = λ _ clean r shown. sh clean r (shows_still r old mid (kept (began clean)) shown);
-    none = λ not. absurd (not is);
-    made = λ new. absurd (not_new o.origin is new);
-  }
-
   -- the one that is set up, where none was shown
   pub made_open : (IsClean mid → (r : Register) → ShowsIn r old → ⊥) → (result : Result (Opened K) E) → IfOk result (λ o. o.origin ≡ New) → IfOk result (λ o. meaning.is_clean o.register → IsClean mid)
       → IfOk result (λ o. meaning.is_clean o.register → meaning.shows o.register (empty_register registrar day))

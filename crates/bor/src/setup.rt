@@ -2,13 +2,13 @@
 
 ghost use Rattle.std.specs.Prelude.{◌≡◌, IfOk};
 ghost use Rattle.sqlite.specs.Held.{state};
-ghost use Rattle.bor_register.specs.Register.{Register, empty_register};
-ghost use Rattle.bor_store_sql.specs.Shown.{IsClean, ShowsIn};
+ghost use Rattle.bor_register.specs.Register.{empty_register};
+ghost use Rattle.bor_store_sql.specs.Shown.{IsClean};
 ghost use Rattle.bor.specs.Machine.{ComesOpen};
 
 use bor_desk::operations::Keep;
 use bor_program::{Opened, Origin};
-use bor_store::{OpenFault, SqlKeep, examine, set_up};
+use bor_store::{OpenFault, Refused, SqlKeep, set_up};
 use bor_terms::{Day, Token};
 use sqlite::{Alter, Connection};
 use std::alloc::Global;
@@ -25,31 +25,17 @@ pub fn find_or_set_up<S: Alter + Drop>(
         ComesOpen keep.meaning registrar.now day (state S.Store conn)
         opened.register opened.origin) }
 {
-    let mut conn = conn;
-    match examine(&mut conn) {
-        Ok(()) => adopt(alloc, conn),
-        Err(OpenFault::NoRegister) => set_up_on(alloc, conn, registrar, day),
-        Err(fault) => Err(fault),
+    match SqlKeep::adopt(alloc, conn) {
+        Ok(register) => Ok(Opened {
+            register,
+            origin: Origin::Found,
+        }),
+        Err(Refused {
+            fault: OpenFault::NoRegister,
+            conn,
+        }) => set_up_on(alloc, conn, registrar, day),
+        Err(refused) => Err(refused.fault),
     }
-}
-
-// The register that the tables of a store are.
-fn adopt<S: Alter + Drop>(
-    alloc: Global,
-    conn: Connection<S>,
-) -> Result<Opened<SqlKeep<S>>, OpenFault>
-    ensures origin { IfOk result (λ opened. opened.origin ≡ Origin.Found) }
-    ensures began { let keep = ⟦<SqlKeep<S> as Keep>⟧ in IfOk result (λ opened.
-        keep.meaning.is_clean opened.register → IsClean (state S.Store conn)) }
-    ensures shows { let keep = ⟦<SqlKeep<S> as Keep>⟧ in IfOk result (λ opened.
-        keep.meaning.is_clean opened.register → (r : Register) → ShowsIn r (state S.Store conn)
-        → keep.meaning.shows opened.register r) }
-{
-    let register = SqlKeep::adopt(alloc, conn)?;
-    Ok(Opened {
-        register,
-        origin: Origin::Found,
-    })
 }
 
 // Sets a register up in a store.

@@ -19,7 +19,7 @@ use Rattle.bor_register.specs.declared.member.Member.{Member}
 use Rattle.bor_store_sql.specs.Rows.Encoding.{identifier_columns, interest_columns, or_null, statement_columns}
 use Rattle.bor_store_sql.specs.Rows.Placed.{bare, identifier_rows, interest_rows, placed, placed_by, placed_from}
 use Rattle.bor_store_sql.specs.Rows.Stored.{AreNumbered, IsStored}
-use Rattle.bor_store_sql.specs.Rows.WordLaws.{status_back}
+use Rattle.bods_read.specs.WordLaws.{status_back}
 use Rattle.bor_store_sql.specs.declared.rows.typed.Placed.{Placed}
 use Rattle.bor_store_sql.proofs.OnRows.Numbers.{other_number}
 use Rattle.bor_store_sql.proofs.OnRows.Successors.{is_number, none_filed, other_filing, own_filing}

@@ -62,20 +62,23 @@ is_token bytes = has_length 16 64 bytes && list_all is_visible_byte bytes
 abbrev pub AreBytes : List ℕ → Type 0
 AreBytes bytes = (k : ℕ) → slice_index bytes k < 256
 
--- how many bytes a text has, or 8 where they are more than seven
-abbrev pub short_length : List ℕ → ℕ
-short_length bytes = min (length bytes) 8
-
--- the first seven bytes and then the length as one number, the first byte the highest; a byte that
--- is missing is 0
+-- the first eight bytes as a number, the first of them the highest; a byte that is missing is 0
 unfoldable pub front_of : List ℕ → ℕ
-front_of bytes = from_be_bytes w64 (
-    slice_index bytes 0 ∷ slice_index bytes 1 ∷ slice_index bytes 2 ∷ slice_index bytes 3
-    ∷ slice_index bytes 4 ∷ slice_index bytes 5 ∷ slice_index bytes 6 ∷ short_length bytes ∷ [])
+front_of bytes = from_be_bytes w64 bytes
 
--- a text of at most seven bytes, by its front
-abbrev pub is_whole_front : ℕ → Bool
-is_whole_front front = nat_lt (front % 256) 8
+-- how many bytes a text has, or 16 where they are more than fifteen
+abbrev pub short_length : List ℕ → ℕ
+short_length bytes = min (length bytes) 16
+
+-- the next seven bytes, and then the length, as one number
+unfoldable pub back_of : List ℕ → ℕ
+back_of bytes = from_be_bytes w64 (
+    slice_index bytes 8 ∷ slice_index bytes 9 ∷ slice_index bytes 10 ∷ slice_index bytes 11
+    ∷ slice_index bytes 12 ∷ slice_index bytes 13 ∷ slice_index bytes 14 ∷ short_length bytes ∷ [])
+
+-- a text of at most fifteen bytes, which its front and its back tell whole
+abbrev pub is_short : ℕ → Bool
+is_short back = nat_lt (back % 256) 16
 
 -- two texts are the same where their bytes are
 abbrev pub is_same : List ℕ → List ℕ → Bool

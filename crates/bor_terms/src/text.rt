@@ -4,7 +4,7 @@ ghost use Rattle.std.specs.Prelude.{◌≡◌, ℕ, List, Bool, true, false, IsO
 ghost use Rattle.std.specs.Ordering.{nat_cmp};
 ghost use Rattle.std.specs.Cmp.{partial_equiv_from_equiv};
 ghost use Rattle.std.specs.Cmp.Lexicographic.{slice_cmp, nat_list_eq_equiv, nat_list_cmp_total, texts_ties, texts_po};
-ghost use Rattle.bor_terms.specs.Texts.{is_same, is_whole_front, short_length, front_of, AreBytes};
+ghost use Rattle.bor_terms.specs.Texts.{is_same, is_short, short_length, front_of, back_of, AreBytes};
 
 use std::alloc::{AllocError, Global};
 use std::cmp::Ordering;
@@ -31,22 +31,23 @@ pub trait Form {
 /// a text share its bytes.
 #[derive(Drop)]
 pub struct Text<F: Form> {
-    // The first seven bytes and the length, as a number. Texts of different numbers are compared by
-    // these alone, and those of at most seven bytes too.
+    // The first eight bytes, and then the next seven with the length, as two numbers. Texts that
+    // differ in one of them are compared by these alone, and those of at most fifteen bytes too.
     front: u64,
+    back: u64,
     text: Rc<String>,
     form: PhantomData<F>,
 }
 
 impl<F: Form> Model for Text<F> {
     ghost use Rattle.std.specs.Prelude.{◌≡◌, List, ℕ, true, string_bytes};
-    ghost use Rattle.bor_terms.specs.Texts.{front_of, AreBytes};
+    ghost use Rattle.bor_terms.specs.Texts.{front_of, back_of, AreBytes};
 
     ghost Value = { List ℕ };
 
     ghost view = { λ a. string_bytes a.text.value };
 
-    ghost invariant = { λ a. (F.is_form (string_bytes a.text.value) ≡ true) × (a.front ≡ front_of (string_bytes a.text.value)) × AreBytes (string_bytes a.text.value) };
+    ghost invariant = { λ a. (F.is_form (string_bytes a.text.value) ≡ true) × (a.front ≡ front_of (string_bytes a.text.value)) × (a.back ≡ back_of (string_bytes a.text.value)) × AreBytes (string_bytes a.text.value) };
 }
 
 impl<F: Form> Text<F> {
@@ -76,8 +77,10 @@ impl<F: Form> Text<F> {
         ensures { IfOk result (λ made. made ≡ string_bytes text) }
     {
         let front = front_of(text.as_bytes());
+        let back = back_of(text.as_bytes());
         Ok(Text {
             front,
+            back,
             text: Rc::new(alloc, text)?,
             form: PhantomData,
         })
@@ -105,6 +108,21 @@ impl<F: Form> Text<F> {
     {
         Ok(Text {
             front: self.front,
+            back: self.back,
+            text: self.text.clone()?,
+            form: PhantomData,
+        })
+    }
+
+    /// The same text, of another form that it has too. As a copy it shares the bytes and takes no
+    /// memory.
+    pub fn shared<G: Form>(&self, _alloc: Global) -> Result<Text<G>, AllocError>
+        requires { G.is_form self.now ≡ true }
+        ensures { IfOk result (λ shared. shared ≡ self.now) }
+    {
+        Ok(Text {
+            front: self.front,
+            back: self.back,
             text: self.text.clone()?,
             form: PhantomData,
         })
@@ -117,7 +135,10 @@ impl<F: Form> PartialEq for Text<F> {
     ghost laws = { partial_equiv_from_equiv nat_list_eq_equiv };
 
     fn eq(&self, other: &Text<F>) -> bool {
-        self.front == other.front && (is_whole_front(self.front) || self.text == other.text)
+        if self.front != other.front || self.back != other.back {
+            return false;
+        }
+        is_short(self.back) || self.text == other.text
     }
 }
 
@@ -148,15 +169,17 @@ impl<F: Form> Ord for Text<F> {
         if self.front != other.front {
             return self.front.cmp(&other.front);
         }
-        if is_whole_front(self.front) {
+        if self.back != other.back {
+            return self.back.cmp(&other.back);
+        }
+        if is_short(self.back) {
             return Ordering::Equal;
         }
         self.text.cmp(&other.text)
     }
 }
 
-// The first seven bytes and the length as a number, the first byte the highest; a byte that is
-// missing is 0.
+// The first eight bytes as a number, the first of them the highest; a byte that is missing is 0.
 fn front_of(bytes: &[u8]) -> u64
     ensures front { result ≡ front_of bytes.now }
     ensures bytes { AreBytes bytes.now }
@@ -169,22 +192,38 @@ fn front_of(bytes: &[u8]) -> u64
         byte_at(bytes, 4),
         byte_at(bytes, 5),
         byte_at(bytes, 6),
+        byte_at(bytes, 7),
+    ])
+}
+
+// The next seven bytes and the length as a number.
+fn back_of(bytes: &[u8]) -> u64
+    ensures { result ≡ back_of bytes.now }
+{
+    u64::from_be_bytes([
+        byte_at(bytes, 8),
+        byte_at(bytes, 9),
+        byte_at(bytes, 10),
+        byte_at(bytes, 11),
+        byte_at(bytes, 12),
+        byte_at(bytes, 13),
+        byte_at(bytes, 14),
         short_length(bytes),
     ])
 }
 
-// How many bytes there are, or 8 where they are more than seven.
+// How many bytes there are, or 16 where they are more than fifteen.
 fn short_length(bytes: &[u8]) -> u8
     ensures { result ≡ short_length bytes.now }
 {
-    bytes.len().min(8) as u8
+    bytes.len().min(16) as u8
 }
 
-// Whether a front is that of a text of at most seven bytes, which it tells whole.
-fn is_whole_front(front: u64) -> bool
-    ensures { result ≡ is_whole_front front }
+// Whether this back is one of a text of at most fifteen bytes.
+fn is_short(back: u64) -> bool
+    ensures { result ≡ is_short back }
 {
-    front % 256 < 8
+    back % 256 < 16
 }
 
 fn byte_at(bytes: &[u8], place: usize) -> u8

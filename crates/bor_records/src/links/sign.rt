@@ -25,8 +25,8 @@ impl Sign {
         ensures { IfOk result (λ sign. sign ≡ by_record node.now) }
     {
         Ok(Sign {
-            name: text_of(alloc, node.rec.as_str())?,
-            group: text_of(alloc, node.agent.as_str())?,
+            name: node.rec.shared(alloc)?,
+            group: node.agent.shared(alloc)?,
             of_record: true,
         })
     }
@@ -41,10 +41,4 @@ impl Sign {
             of_record: false,
         })
     }
-}
-
-fn text_of(alloc: Global, text: &str) -> Result<FreeText, AllocError>
-    ensures { IfOk result (λ copied. copied ≡ text.now) }
-{
-    FreeText::new(alloc, String::from_str(alloc, text)?)
 }

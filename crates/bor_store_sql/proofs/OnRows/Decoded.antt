@@ -23,8 +23,8 @@ use Rattle.bor_store_sql.specs.declared.rows.typed.StatementRow.{StatementRow}
 use Rattle.bor_store_sql.specs.declared.rows.typed.InterestLine.{InterestLine}
 use Rattle.bor_store_sql.specs.declared.rows.typed.PeriodRow.{PeriodRow}
 use Rattle.bor_store_sql.specs.declared.rows.typed.IdentifierRow.{IdentifierRow}
-use Rattle.bor_store_sql.specs.Rows.Words.{entity_kind_of, person_kind_of, interest_kind_of, directness_named}
-use Rattle.bor_store_sql.specs.Rows.WordLaws.{type_back, status_back, entity_back, person_back, interest_back, directness_back}
+use Rattle.bods_read.specs.Words.{entity_kind_of, person_kind_of, interest_kind_of, directness_named}
+use Rattle.bods_read.specs.WordLaws.{type_back, status_back, entity_back, person_back, interest_back, directness_back}
 use Rattle.bor_store_sql.specs.Rows.Encoding.{truth, or_null, day_or_null, statement_columns, interest_line_columns, period_columns, identifier_columns, filing_columns}
 
 -- ---- lists of rows

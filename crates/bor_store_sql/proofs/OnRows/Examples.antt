@@ -16,7 +16,7 @@ use Rattle.bor_register.specs.declared.filing.AcceptedFiling.{AcceptedFiling}
 use Rattle.bor_store_sql.specs.Rows.Encoding.{contents}
 use Rattle.bor_store_sql.specs.Shown.{first_contents}
 use Rattle.bor_store_sql.specs.Undated.{undated, undated_filing, undated_statement, without_days}
-use Rattle.bor_store_sql.specs.Rows.Words.{entity_kind_of, person_kind_of, interest_kind_of, directness_named}
+use Rattle.bods_read.specs.Words.{entity_kind_of, person_kind_of, interest_kind_of, directness_named}
 
 -- ---- the register
 

@@ -1,13 +1,12 @@
--- Each word of the tables is UTF-8, and is read back as its value. Contracts of private functions
--- alone cite it.
+-- Each word is UTF-8, and is read back as its value.
 use Rattle.std.proofs.Common.{◌≡◌, Some, refl}
 use Rattle.std.specs.Str.{IsUtf8, is_utf8, chars}
 use lib.Utf8.{encode}
 use Rattle.std.proofs.lemmas.Str.{IsUtf8-from_is_utf8}
 use Rattle.bods_read.specs.Words.{type_word, type_worded, status_word, status_worded, entity_word}
 use Rattle.bods_read.specs.Words.{person_word, interest_word, directness_word}
-use Rattle.bor_store_sql.specs.Rows.Words.{entity_kind_of, person_kind_of, interest_kind_of}
-use Rattle.bor_store_sql.specs.Rows.Words.{directness_named}
+use Rattle.bods_read.specs.Words.{entity_kind_of, person_kind_of, interest_kind_of}
+use Rattle.bods_read.specs.Words.{directness_named}
 use Rattle.bods_read.specs.declared.statement.RecordType.{RecordType}
 use Rattle.bods_read.specs.declared.statement.RecordType.TheVariants as types
 use Rattle.bods_read.specs.declared.statement.Status.{Status}
