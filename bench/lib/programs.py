@@ -12,8 +12,8 @@ sys.path.append(str(TOP / "tools" / "lib"))
 from crates import listed, with_those_below
 
 # This builds the program where it has to be built, and runs it.
-BOR = '/tmp/bor_wide'
-BUILT = '/tmp/bor_wide'
+BOR = str(TOP / "bor")
+BUILT = str(TOP / "crates" / "bor" / "out" / "bor")
 RT = os.environ.get("RT", "rt")
 
 
