@@ -3,4 +3,4 @@ use Rattle.std.specs.Prelude.{ℕ}
 
 -- the live statements for each megabyte of memory: one takes about 1,300 bytes, measured
 abbrev pub statements_a_megabyte : ℕ
-statements_a_megabyte = 750
+statements_a_megabyte = 700
