@@ -1,44 +1,37 @@
 -- Sign by sign to all nodes that are the same as one.
 use Rattle.std.proofs.Common.{◌≡◌, ◌↔◌, ◌⊎◌, ◌+◌, ◌<◌, ◌≤◌, ◌++◌, ◌&&◌, ◌||◌, not, ℕ, Bool, true, false, cond, Option, Some, None, List, [], ◌∷◌, Contains, IsTrue, take, length, get_or, map, sym, refl, ap, ◌∙◌, subst, inl, inr, arith, append_assoc, option_map, Result, Ok, Err, IfOk}
 use Rattle.std.specs.Ordering.{is_eq, nat_cmp}
-use Rattle.std.specs.declared.cmp.Ordering.{Ordering}
-use Rattle.std.specs.BTreeSet.{BTreeSet, IsEmpty, contains}
-use Rattle.std.specs.List.{filter, filter_map, slice_get, list_any, IsDistinct}
+use Rattle.std.specs.List.{filter, filter_map, slice_get, IsDistinct}
 use Rattle.std.proofs.lemmas.Map.Views.{tells_apart}
 use Rattle.std.proofs.lemmas.Map.Lookups.{exact_unsigned}
-use Rattle.std.proofs.Math.Bool.{or-true}
 use Rattle.std.proofs.lemmas.Bool.{and_parts, not-false}
 use Rattle.std.proofs.lemmas.Option.{same_Some}
 use Rattle.std.proofs.lemmas.List.{append-nil, take_all, take-append-le}
 use Rattle.std.proofs.lemmas.List.Elements.{Contains-append_left, Contains-append_right, Contains-append_cases, Contains-get_or}
-use Rattle.bor_terms.specs.Texts.{is_same}
-use Rattle.bor_terms.proofs.Texts.{is_same-of}
 use Rattle.bods_read.specs.declared.details.Identifier.{Identifier}
 use Rattle.bor_records.specs.declared.links.node.Node.{Node}
 use Rattle.bor_records.specs.declared.links.node.OpenNode.{OpenNode}
 use Rattle.bor_records.specs.declared.links.sign.Sign.{Sign}
 use Rattle.bor_records.specs.Links.Nodes.{same_node}
-use Rattle.bor_records.specs.Links.Shown.{Shown, listed_at, are_alike, is_like, is_entity, same_record, share_identifier, same_identifier}
+use Rattle.bor_records.specs.Links.Shown.{Shown, listed_at, are_alike, is_like, is_entity, same_record, share_identifier}
 use Rattle.bor_records.specs.Links.Aliases.{Alias, Same}
-use Rattle.bor_records.specs.Links.Answers.{AreAliases, AreSame}
+use Rattle.bor_records.specs.Links.Answers.{AreAliases, AreDistinct, AreSame}
 use Rattle.bor_chains.specs.Laws.{SameAreAClass}
 use Rattle.bor_chains.specs.Tables.{node_at_place}
-use Rattle.bor_records.specs.Links.Signs.{sign_cmp, by_record, by_identifier, signs}
+use Rattle.bor_records.specs.Links.Signs.{HasSign, sign_cmp, by_record, by_identifier, signs}
 use Rattle.bor_chains.specs.Likeness.{AreUnder}
-use Rattle.bor_chains.specs.Classes.{listed_node, entity_in, place_in, IsAmong, HasSign, Expands, AreGathered, VisitsPlace, AreAllSame}
-use Rattle.bor_records.proofs.OnLinks.SameNode.{same_node_is}
-use Rattle.bor_records.proofs.OnLinks.Found.{Contains-filter_map, Contains-from_filter_map, none, here, cases, Contains-filter, Contains-from_filter, Contains-from_map}
-use Rattle.bor_records.proofs.OnLinks.Listed.{found_is}
-use Rattle.bor_chains.proofs.Lists.{AreDistinct, listed_is}
+use Rattle.bor_chains.specs.Classes.{listed_node, entity_in, place_in, IsAmong, AddsPlaces, AreGathered, VisitsPlace, AreAllSame}
+use Rattle.bor_records.proofs.OnLinks.Found.{one_of, Contains-filter_map, Contains-from_filter_map, none, here, Contains-filter, Contains-from_filter}
+use Rattle.bor_records.proofs.OnLinks.Listed.{found_is, listed_is}
 use Rattle.bor_records.proofs.OnLinks.Exact.{exact_sign}
-use Rattle.bor_records.proofs.OnLinks.Signs.{in_common}
-use Rattle.bor_chains.proofs.Signs.{identifiers_more, placed_in, in_place}
+use Rattle.bor_records.proofs.OnLinks.Signs.{common_alike, identifiers_more, in_common}
+use Rattle.bor_chains.proofs.Signs.{placed_in, in_place}
 use Rattle.bor_records.proofs.OnLinks.Growth.{Contains-take_more}
 use Rattle.bor_records.proofs.OnLinks.Sames.{same_more, same_reached, same_alone}
 
 -- ---- signs looked up
 
-pub expands_none : (nodes : List OpenNode) (places : Sign → List ℕ) (one : OpenNode) (found : List ℕ) (seen : Sign → Bool) → Expands nodes places one [] found found seen seen
+pub expands_none : (nodes : List OpenNode) (places : Sign → List ℕ) (one : OpenNode) (found : List ℕ) (seen : Sign → Bool) → AddsPlaces nodes places one [] found found seen seen
 expands_none nodes places one found seen = record {
   rest = [];
   begins = sym (append-nil found);
@@ -48,11 +41,8 @@ expands_none nodes places one found seen = record {
   fresh = λ k h. inl h;
 }
 
-pub one_of : {X : Type 0} (x y : X) → Contains (x ∷ []) y → x ≡ y
-one_of x y h = elim (cases x [] y h) [ inl e ↦ e | inr k ↦ absurd (none y k) ]
-
 -- a sign that was seen
-pub expands_seen : (nodes : List OpenNode) (places : Sign → List ℕ) (one : OpenNode) (key : Sign) (found : List ℕ) (seen : Sign → Bool) → seen key ≡ true → Expands nodes places one (key ∷ []) found found seen seen
+pub expands_seen : (nodes : List OpenNode) (places : Sign → List ℕ) (one : OpenNode) (key : Sign) (found : List ℕ) (seen : Sign → Bool) → seen key ≡ true → AddsPlaces nodes places one (key ∷ []) found found seen seen
 expands_seen nodes places one key found seen was = record {
   rest = [];
   begins = sym (append-nil found);
@@ -64,7 +54,7 @@ expands_seen nodes places one key found seen was = record {
 
 -- a sign that is seen for the first time
 pub expands_sign : (nodes : List OpenNode) (places : Sign → List ℕ) (one : OpenNode) (key : Sign) (old new : List ℕ) (was now : Sign → Bool) → new ≡ old ++ filter (λ i. is_like one (slice_get nodes i)) (places key)
-    → ((q : Sign) → now q ≡ cond (is_eq (sign_cmp key q)) true (was q)) → now key ≡ true → Expands nodes places one (key ∷ []) old new was now
+    → ((q : Sign) → now q ≡ cond (is_eq (sign_cmp key q)) true (was q)) → now key ≡ true → AddsPlaces nodes places one (key ∷ []) old new was now
 expands_sign nodes places one key old new was now e up added = record {
   rest = filter (λ i. is_like one (slice_get nodes i)) (places key);
   begins = e;
@@ -87,8 +77,8 @@ expands_sign nodes places one key old new was now e up added = record {
     )
 
 -- signs after signs
-pub expands_more : (nodes : List OpenNode) (places : Sign → List ℕ) (one : OpenNode) (ks js : List Sign) (a b c : List ℕ) (p q r : Sign → Bool) → Expands nodes places one ks a b p q → Expands nodes places one js b c q r
-    → Expands nodes places one (ks ++ js) a c p r
+pub expands_more : (nodes : List OpenNode) (places : Sign → List ℕ) (one : OpenNode) (ks js : List Sign) (a b c : List ℕ) (p q r : Sign → Bool) → AddsPlaces nodes places one ks a b p q → AddsPlaces nodes places one js b c q r
+    → AddsPlaces nodes places one (ks ++ js) a c p r
 expands_more nodes places one ks js a b c p q r g h = record {
   rest = g.rest ++ h.rest;
   begins = h.begins ∙ ap (λ (xs : List ℕ). xs ++ h.rest) g.begins ∙ append_assoc a g.rest h.rest;
@@ -106,91 +96,16 @@ expands_more nodes places one ks js a b c p q r g h = record {
 
 -- an identifier more
 pub expands_identifier : (nodes : List OpenNode) (places : Sign → List ℕ) (one : OpenNode) (ids : List Identifier) (n : ℕ) (d : Identifier) (key : Sign) (a b c : List ℕ) (p q r : Sign → Bool) → n < length ids → key ≡ by_identifier (get_or ids n d)
-    → Expands nodes places one (map by_identifier (take n ids)) a b p q → Expands nodes places one (key ∷ []) b c q r → Expands nodes places one (map by_identifier (take (n + 1) ids)) a c p r
+    → AddsPlaces nodes places one (map by_identifier (take n ids)) a b p q → AddsPlaces nodes places one (key ∷ []) b c q r → AddsPlaces nodes places one (map by_identifier (take (n + 1) ids)) a c p r
 expands_identifier nodes places one ids n d key a b c p q r lt is g h =
-    subst (λ (ks : List Sign). Expands nodes places one ks a c p r) (ap (λ (z : Sign). map by_identifier (take n ids) ++ z ∷ []) is ∙ sym (identifiers_more ids n d lt))
+    subst (λ (ks : List Sign). AddsPlaces nodes places one ks a c p r) (ap (λ (z : Sign). map by_identifier (take n ids) ++ z ∷ []) is ∙ sym (identifiers_more ids n d lt))
     (expands_more nodes places one (map by_identifier (take n ids)) (key ∷ []) a b c p q r g h)
 
 -- all signs
 pub expands_signs : (nodes : List OpenNode) (places : Sign → List ℕ) (one : OpenNode) (key : Sign) (a b c : List ℕ) (p q r : Sign → Bool) → key ≡ by_record one.node
-    → Expands nodes places one (key ∷ []) a b p q → Expands nodes places one (map by_identifier one.identifiers) b c q r → Expands nodes places one (signs one) a c p r
+    → AddsPlaces nodes places one (key ∷ []) a b p q → AddsPlaces nodes places one (map by_identifier one.identifiers) b c q r → AddsPlaces nodes places one (signs one) a c p r
 expands_signs nodes places one key a b c p q r is g h =
-    subst (λ (z : Sign). Expands nodes places one (z ∷ map by_identifier one.identifiers) a c p r) is (expands_more nodes places one (key ∷ []) (map by_identifier one.identifiers) a b c p q r g h)
-
--- ---- two entities with one sign are alike, or one
-
-same_group : (x y : Sign) → x ≡ y → x.group ≡ y.group
-same_group x y e = ap (λ (k : Sign). k.group) e
-
-same_name : (x y : Sign) → x ≡ y → x.name ≡ y.name
-same_name x y e = ap (λ (k : Sign). k.name) e
-
-kinds_differ : (n : Node) (i : Identifier) → by_record n ≡ by_identifier i → ⊥
-kinds_differ n i e = let no : true ≡ false = ap (λ (k : Sign). k.of_record) e in cc
-
-pub any_is : {X : Type 0} (p : X → Bool) (xs : List X) (x : X) → Contains xs x → p x ≡ true → list_any p xs ≡ true
-any_is p [] x h t = absurd (none x h)
-any_is {X} p (y ∷ ys) x h t = elim (cases y ys x h) [
-  | inl e ↦ ap (λ (b : Bool). b || list_any p ys) (ap p e ∙ t)
-  | inr k ↦ ap (λ (b : Bool). p y || b) (any_is p ys x k t) ∙ or-true (p y)
-]
-
-alike_by : (a b : OpenNode) → is_entity a.info ≡ true → is_entity b.info ≡ true → (same_record a.node b.node || share_identifier a.identifiers b.identifiers && not (same_node a.node b.node)) ≡ true → are_alike a b ≡ true
-alike_by a b ea eb h = ap (λ (x : Bool). x && is_entity b.info && (same_record a.node b.node || share_identifier a.identifiers b.identifiers && not (same_node a.node b.node))) ea
-    ∙ ap (λ (x : Bool). true && x && (same_record a.node b.node || share_identifier a.identifiers b.identifiers && not (same_node a.node b.node))) eb ∙ h
-
-record_alike : (a b : Node) → a.agent ≡ b.agent → a.rec ≡ b.rec → same_node a b ≡ false → same_record a b ≡ true
-record_alike a b e f differ = by (is_same a.declaration b.declaration) refl
-  where
-    agents : is_same a.agent b.agent ≡ true
-    agents = is_same-of a.agent b.agent e
-
-    recs : is_same a.rec b.rec ≡ true
-    recs = is_same-of a.rec b.rec f
-
-    by : (t : Bool) → is_same a.declaration b.declaration ≡ t → same_record a b ≡ true
-    by true h =
-        let both : same_node a b ≡ true = ap (λ (x : Bool). x && (is_same a.declaration b.declaration && is_same a.rec b.rec)) agents ∙ ap (λ (x : Bool). true && (x && is_same a.rec b.rec)) h ∙ recs in
-        absurd (let no : true ≡ false = sym both ∙ differ in cc)
-    by false h = ap (λ (x : Bool). x && (is_same a.rec b.rec && not (is_same a.declaration b.declaration))) agents ∙ ap (λ (x : Bool). true && (x && not (is_same a.declaration b.declaration))) recs ∙ ap (λ (x : Bool). not x) h
-
-identifier_alike : (xs ys : List Identifier) (i j : Identifier) → Contains xs i → Contains ys j → by_identifier i ≡ by_identifier j → share_identifier xs ys ≡ true
-identifier_alike xs ys i j h k e = any_is (λ x. list_any (λ y. same_identifier x y) ys) xs i h (any_is (λ y. same_identifier i y) ys j k
-    (ap (λ (x : Bool). x && is_same i.id j.id) (is_same-of i.scheme j.scheme (same_group (by_identifier i) (by_identifier j) e)) ∙ is_same-of i.id j.id (same_name (by_identifier i) (by_identifier j) e)))
-
-pub common_alike : (a b : OpenNode) (k : Sign) → HasSign a k → HasSign b k → (a.node ≡ b.node) ⊎ (are_alike a b ≡ true)
-common_alike a b k ha hb = by (same_node a.node b.node) refl
-  where
-    or_left : (x y : Bool) → x ≡ true → (x || y) ≡ true
-    or_left x y e = ap (λ (t : Bool). t || y) e
-
-    or_right : (x y z : Bool) → y ≡ true → z ≡ false → (x || y && not z) ≡ true
-    or_right true y z e f = refl
-    or_right false y z e f = ap (λ (t : Bool). t && not z) e ∙ ap (λ (t : Bool). not t) f
-
-    step : same_node a.node b.node ≡ false → are_alike a b ≡ true
-    step differ = alike_by a b ha.0 hb.0 (elim (cases (by_record a.node) (map by_identifier a.identifiers) k ha.1) [
-      | inl e ↦ elim (cases (by_record b.node) (map by_identifier b.identifiers) k hb.1) [
-        | inl f ↦
-            let z = e ∙ sym f in
-            or_left (same_record a.node b.node) (share_identifier a.identifiers b.identifiers && not (same_node a.node b.node))
-            (record_alike a.node b.node (same_group (by_record a.node) (by_record b.node) z) (same_name (by_record a.node) (by_record b.node) z) differ)
-        | inr f ↦ let j = Contains-from_map by_identifier b.identifiers k f in absurd (kinds_differ a.node j.0 (e ∙ sym j.2))
-      ]
-      | inr e ↦
-          let i = Contains-from_map by_identifier a.identifiers k e in
-          elim (cases (by_record b.node) (map by_identifier b.identifiers) k hb.1) [
-            | inl f ↦ absurd (kinds_differ b.node i.0 (f ∙ sym i.2))
-            | inr f ↦
-                let j = Contains-from_map by_identifier b.identifiers k f in
-                or_right (same_record a.node b.node) (share_identifier a.identifiers b.identifiers) (same_node a.node b.node)
-                (identifier_alike a.identifiers b.identifiers i.0 j.0 i.1 j.1 (i.2 ∙ sym j.2)) differ
-          ]
-    ])
-
-    by : (t : Bool) → same_node a.node b.node ≡ t → (a.node ≡ b.node) ⊎ (are_alike a b ≡ true)
-    by true e = inl (same_node_is a.node b.node e)
-    by false e = inr (step e)
+    subst (λ (z : Sign). AddsPlaces nodes places one (z ∷ map by_identifier one.identifiers) a c p r) is (expands_more nodes places one (key ∷ []) (map by_identifier one.identifiers) a b c p q r g h)
 
 -- ---- a place more
 
@@ -233,7 +148,7 @@ visits_none s first place found seen was now split stays done no_entity = record
 -- a place of an entity, whose signs are looked up
 pub visits_entity : (s : Shown) (first : Node) (place : ℕ) (one : OpenNode) (places : Sign → List ℕ) (a b : List ℕ) (p q : Sign → Bool) (was now : ℕ → Bool) → AreDistinct s.nodes → AreUnder (length s.nodes) s.nodes places
     → slice_get s.nodes place ≡ Some one → is_entity one.info ≡ true → ((i : ℕ) → now i ≡ true → (i ≡ place) ⊎ (was i ≡ true)) → ((i : ℕ) → was i ≡ true → now i ≡ true) → now place ≡ true
-    → Expands s.nodes places one (signs one) a b p q → VisitsPlace s first place (record { found = a; seen = p; done = was }) (record { found = b; seen = q; done = now })
+    → AddsPlaces s.nodes places one (signs one) a b p q → VisitsPlace s first place (record { found = a; seen = p; done = was }) (record { found = b; seen = q; done = now })
 visits_entity s first place one places a b p q was now d under at entity split stays done e = record {
   rest = e.rest;
   begins = e.begins;
@@ -323,12 +238,12 @@ visit_none s nodes first place found seen was now e up done gone = visits_none s
     (λ x at t. no_entity_is (slice_get nodes place) x gone (ap (λ (xs : List OpenNode). slice_get xs place) (sym e) ∙ at) t)
 
 pub visit_entity : (s : Shown) (nodes : List OpenNode) (first : Node) (place : ℕ) (one : OpenNode) (places : Sign → List ℕ) (a b : List ℕ) (p q : Sign → Bool) (was now : ℕ → Bool) → s.nodes ≡ nodes → IsDistinct same_node (map (λ x. x.node) s.nodes)
-    → AreUnder (length nodes) nodes places → PutDone place was now → now place ≡ true → entity_in (slice_get nodes place) ≡ Some one → Expands nodes places one (signs one) a b p q → VisitsPlace s first place (record { found = a; seen = p; done = was }) (record { found = b; seen = q; done = now })
+    → AreUnder (length nodes) nodes places → PutDone place was now → now place ≡ true → entity_in (slice_get nodes place) ≡ Some one → AddsPlaces nodes places one (signs one) a b p q → VisitsPlace s first place (record { found = a; seen = p; done = was }) (record { found = b; seen = q; done = now })
 visit_entity s nodes first place one places a b p q was now e d under up done at x =
     let is = entity_is (slice_get nodes place) one at in
     visits_entity s first place one places a b p q was now d (subst (λ (xs : List OpenNode). AreUnder (length xs) xs places) (sym e) under)
     (ap (λ (xs : List OpenNode). slice_get xs place) e ∙ is.0) is.1 (put_split place was now up) (put_stays place was now up) done
-    (subst (λ (xs : List OpenNode). Expands xs places one (signs one) a b p q) (sym e) x)
+    (subst (λ (xs : List OpenNode). AddsPlaces xs places one (signs one) a b p q) (sym e) x)
 
 -- ---- all of them
 
@@ -414,7 +329,7 @@ none_distinct = tt
 
 -- the places of all that are alike by a sign, and no others
 pub aliases_told : (s : Shown) (nodes : List OpenNode) (x : OpenNode) (first : ℕ) (places : Sign → List ℕ) (start found : List ℕ) (was now : Sign → Bool) (rough out : List Node) → s.nodes ≡ nodes → AreDistinct s.nodes
-    → AreUnder (length nodes) nodes places → slice_get nodes first ≡ Some x → is_entity x.info ≡ true → start ≡ [] → ((k : Sign) → was k ≡ false) → Expands nodes places x (signs x) start found was now
+    → AreUnder (length nodes) nodes places → slice_get nodes first ≡ Some x → is_entity x.info ≡ true → start ≡ [] → ((k : Sign) → was k ≡ false) → AddsPlaces nodes places x (signs x) start found was now
     → rough ≡ filter_map (λ i. listed_node (slice_get nodes i)) found → ((b : Node) → Contains out b ↔ Contains rough b) → IsDistinct same_node out → AreAliases s x.node out
 aliases_told s nodes x first places start found was now rough out e d under at entity empty unseen ex rough_is same once = record { each = λ b. (from b, to b); once = once }
   where
@@ -504,9 +419,6 @@ place_none nodes (Some j) h = by (slice_get nodes j) refl h
     by : (o : Option OpenNode) → slice_get nodes j ≡ o → option_map (λ x. j) o ≡ None → slice_get nodes j ≡ None
     by None e k = e
     by (Some x) e k = absurd (let no : Some j ≡ None = k in cc)
-
-pub empty_has : {K : Type 0} (R : K → K → Ordering) (s : BTreeSet K) (k : K) → IsEmpty s → contains R s k ≡ false
-empty_has {K} R s k e = ap (λ (ks : List K). list_any (λ j. is_eq (R k j)) ks) e
 
 -- ---- the law
 

@@ -1,5 +1,5 @@
 -- Marks that are given, unless one is there.
-use Rattle.std.proofs.Common.{◌≤◌, Option, List}
+use Rattle.std.proofs.Common.{Option, List}
 use Rattle.bor_records.specs.Links.Answers.{AreSame}
 use Rattle.bor_records.specs.Links.Shown.{Shown}
 use Rattle.bor_records.specs.declared.links.node.Node.{Node}

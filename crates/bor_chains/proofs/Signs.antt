@@ -6,7 +6,6 @@ use Rattle.std.specs.List.{slice_get}
 use Rattle.std.specs.BTreeMap.{BTreeMap, get}
 use Rattle.std.proofs.lemmas.Map.Views.{tells_apart}
 use Rattle.std.proofs.lemmas.List.Elements.{Contains-push, Contains-push_cases, Contains-append_left}
-use Rattle.std.proofs.lemmas.List.{take_more, map-append}
 use Rattle.std.proofs.lemmas.Option.{same_Some, slice_get-get_or, slice_get_within, get_or_from_slice_get}
 use Rattle.std.proofs.lemmas.Bool.{ltb-true, ltb-false}
 use Rattle.bods_read.specs.declared.details.Identifier.{Identifier}
@@ -17,6 +16,7 @@ use Rattle.bor_records.specs.Links.Signs.{sign_cmp, by_record, by_identifier, si
 use Rattle.bor_chains.specs.Likeness.{Stays, IsUnder, AreUnder}
 use Rattle.bor_records.proofs.OnLinks.Found.{cases}
 use Rattle.bor_records.proofs.OnLinks.Exact.{exact_sign}
+use Rattle.bor_records.proofs.OnLinks.Signs.{identifiers_more}
 
 abbrev pub under : BTreeMap Sign (Vec ℕ Global) → Sign → List ℕ
 under m k = items_of (λ v. v.items) (get sign_cmp m k)
@@ -46,9 +46,6 @@ put_there more key old new place is at =
     subst (λ (o : Option (Vec ℕ Global)). Contains (items_of (λ v. v.items) o) place) (sym at) (subst (λ (xs : List ℕ). Contains xs place) (sym is) (Contains-push old.items place))
 
 -- ---- identifiers
-
-pub identifiers_more : (ids : List Identifier) (i : ℕ) (d : Identifier) → i < length ids → map by_identifier (take (i + 1) ids) ≡ map by_identifier (take i ids) ++ by_identifier (get_or ids i d) ∷ []
-identifiers_more ids i d lt = ap (λ (xs : List Identifier). map by_identifier xs) (take_more ids i d lt) ∙ map-append by_identifier (take i ids) (get_or ids i d ∷ [])
 
 pub under_more : (ids : List Identifier) (i : ℕ) (d : Identifier) (key : Sign) (place : ℕ) (was now : Sign → List ℕ) → i < length ids → key ≡ by_identifier (get_or ids i d) → IsUnder (map by_identifier (take i ids)) place was
     → Stays was now → Contains (now key) place → IsUnder (map by_identifier (take (i + 1) ids)) place now

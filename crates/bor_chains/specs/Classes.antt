@@ -1,7 +1,7 @@
 -- All nodes that are the same as one, while they are looked for sign by sign; for clauses of
 -- private functions alone.
-use Rattle.std.specs.Prelude.{◌≡◌, ◌⊎◌, ◌++◌, ℕ, Bool, true, List, Contains, IsTrue, Option, Some}
-use Rattle.std.specs.Prelude.{None, option_map, if◌then◌else◌}
+use Rattle.std.specs.Prelude.{◌≡◌, ◌⊎◌, ◌++◌, ℕ, Bool, true, List, Contains, Option, Some, None}
+use Rattle.std.specs.Prelude.{option_map, if◌then◌else◌}
 use Rattle.std.specs.BTreeSet.{contains}
 use Rattle.std.specs.List.{slice_get}
 use Rattle.std.specs.Ordering.{nat_cmp}
@@ -10,7 +10,7 @@ use Rattle.bor_records.specs.declared.links.node.OpenNode.{OpenNode}
 use Rattle.bor_records.specs.declared.links.sign.Sign.{Sign}
 use Rattle.bor_records.specs.Links.Shown.{Shown, is_entity, is_like}
 use Rattle.bor_records.specs.Links.Aliases.{Same}
-use Rattle.bor_records.specs.Links.Signs.{sign_cmp, signs}
+use Rattle.bor_records.specs.Links.Signs.{HasSign, sign_cmp}
 use Rattle.bor_chains.specs.declared.class.Class.{Class}
 
 abbrev pub listed_node : Option OpenNode → Option Node
@@ -35,13 +35,9 @@ pub record IsAmong (nodes : List OpenNode) (found : List ℕ) (n : Node) : Type 
   pub at : slice_get nodes place ≡ Some one
   pub is : one.node ≡ n
 
--- an entity has the sign
-abbrev pub HasSign : OpenNode → Sign → Type 0
-HasSign x k = IsTrue (is_entity x.info) × Contains (signs x) k
-
 -- Places under these signs of an entity are added: those of nodes that are alike, unless the sign
 -- was seen.
-pub record Expands (nodes : List OpenNode) (places : Sign → List ℕ) (one : OpenNode)
+pub record AddsPlaces (nodes : List OpenNode) (places : Sign → List ℕ) (one : OpenNode)
     (ks : List Sign) (old_found new_found : List ℕ) (old_seen new_seen : Sign → Bool) : Type 0 where
   pub rest : List ℕ
   pub begins : new_found ≡ old_found ++ rest

@@ -14,7 +14,7 @@ ghost use Rattle.bor_records.specs.Links.Answers.{AreAliases, AreSame};
 ghost use Rattle.bor_chains.specs.Tables.{items_of};
 ghost use Rattle.bor_records.specs.Links.Signs.{sign_cmp, by_identifier, signs};
 ghost use Rattle.bor_chains.specs.Likeness.{AreUnder};
-ghost use Rattle.bor_chains.specs.Classes.{listed_node, entity_in, place_in, Expands, VisitsPlace, AreAllSame, looked};
+ghost use Rattle.bor_chains.specs.Classes.{listed_node, entity_in, place_in, AddsPlaces, VisitsPlace, AreAllSame, looked};
 
 use bods_read::Identifier;
 use bor_records::links::{Node, OpenNode, Sign, once};
@@ -90,7 +90,7 @@ fn add_sign(
     key: Sign,
 ) -> Result<(), AllocError>
     ensures { OnOk result
-        (Expands nodes.now
+        (AddsPlaces nodes.now
         (λ k. items_of (λ v. v.items) (get sign_cmp places.now k)) one.now (key ∷ [])
         found.old.items found.new.items (λ k. contains sign_cmp seen.old k) (λ k.
         contains sign_cmp seen.new k)) }
@@ -114,7 +114,7 @@ fn add_identifiers(
     identifiers: &[Identifier],
 ) -> Result<(), AllocError>
     ensures { OnOk result
-        (Expands nodes.now (λ k. items_of (λ v. v.items) (get sign_cmp places.now k)) one.now
+        (AddsPlaces nodes.now (λ k. items_of (λ v. v.items) (get sign_cmp places.now k)) one.now
         (map by_identifier identifiers.now)
         found.old.items found.new.items (λ k. contains sign_cmp seen.old k) (λ k.
         contains sign_cmp seen.new k)) }
@@ -136,7 +136,7 @@ fn add_signs(
     one: &OpenNode,
 ) -> Result<(), AllocError>
     ensures { OnOk result
-        (Expands nodes.now (λ k. items_of (λ v. v.items) (get sign_cmp places.now k)) one.now
+        (AddsPlaces nodes.now (λ k. items_of (λ v. v.items) (get sign_cmp places.now k)) one.now
         (signs one.now)
         found.old.items found.new.items (λ k. contains sign_cmp seen.old k) (λ k.
         contains sign_cmp seen.new k)) }

@@ -7,8 +7,7 @@ use Rattle.bor_records.specs.declared.links.sign.Sign.{Sign}
 use Rattle.bor_records.specs.Links.Answers.{AreSame}
 use Rattle.bor_records.specs.Links.Nodes.{node_cmp}
 use Rattle.bor_records.specs.Links.Shown.{Shown, listed_at}
-use Rattle.bor_records.specs.Links.Signs.{sign_cmp}
-use Rattle.bor_chains.specs.Classes.{HasSign}
+use Rattle.bor_records.specs.Links.Signs.{sign_cmp, HasSign}
 use Rattle.bor_desk.specs.declared.evidence.kin.Kin.{Kin}
 use Rattle.bor_desk.specs.Memory.Indexed.{under}
 

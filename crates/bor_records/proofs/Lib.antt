@@ -6,5 +6,6 @@ pub mod Identifiers
 pub mod OpenRecords
 pub mod Settled
 pub mod KeptLaws
+pub mod ReadingLaws
 pub mod Sure
 pub mod OnLinks

@@ -15,3 +15,9 @@ pub mod Given
 pub mod InOrder
 pub mod Listed
 pub mod Reached
+pub mod SignsOfRows
+pub mod Sought
+pub mod ByRecord
+pub mod Linking
+pub mod Aliasing
+pub mod Identifying

@@ -6,4 +6,5 @@ pub mod Found
 pub mod OpenRows
 pub mod Seen
 pub mod Promises
+pub mod Reading
 pub mod Links

@@ -10,3 +10,5 @@ pub mod ByKey
 pub mod Laws
 pub mod Signs
 pub mod Growth
+pub mod Candidates
+pub mod Alike

@@ -13,4 +13,3 @@ pub mod OneAgent
 pub mod WithoutFiles
 pub mod BareReads
 pub mod BareChanges
-pub mod Aliasing

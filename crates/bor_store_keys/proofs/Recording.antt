@@ -11,7 +11,7 @@ use Rattle.bor_records.specs.Links.Series.{series_of}
 use Rattle.bor_records.proofs.OnLinks.Found.{Contains-filter, Contains-from_filter, Contains-map}
 use Rattle.bor_register.specs.Register.{Register}
 use Rattle.bor_register.specs.Rows.{visible}
-use Rattle.bor_chains.specs.Candidates.{is_into, names}
+use Rattle.bor_records.specs.Links.Candidates.{is_into, names}
 use Rattle.bor_store_sql.specs.declared.rows.typed.Placed.{Placed}
 use Rattle.bor_store_sql.specs.declared.rows.typed.StatementRow.{StatementRow}
 use Rattle.bor_store_sql.specs.Rows.Placed.{bare}

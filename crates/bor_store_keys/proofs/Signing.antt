@@ -16,8 +16,7 @@ use Rattle.bor_records.specs.declared.links.sign.Sign.{Sign}
 use Rattle.bor_records.specs.Links.Rows.{node_in}
 use Rattle.bor_records.specs.Links.Signs.{by_identifier, by_record, signs}
 use Rattle.bor_records.proofs.OnLinks.Found.{none, here, there, cases, Contains-filter, Contains-from_filter, Contains-from_map, Contains-filter_map}
-use Rattle.bor_records.proofs.OnLinks.Signs.{same_any}
-use Rattle.bor_chains.proofs.Classes.{any_is}
+use Rattle.bor_records.proofs.OnLinks.Signs.{same_any, any_is}
 use Rattle.bor_register.specs.Register.{Register}
 use Rattle.bor_store_sql.specs.declared.rows.places.At.{At}
 use Rattle.bor_store_sql.specs.declared.rows.typed.Placed.{Placed}
@@ -30,7 +29,7 @@ use Rattle.bor_store_sql.proofs.OnRows.Apart.{all_apart}
 use Rattle.bor_store_sql.specs.Selected.{identified_by, in_record, placed_of}
 use Rattle.bor_store_sql.proofs.Alone.{IsAlone, each_alone, own_placed}
 use Rattle.bor_store_keys.specs.Recorded.{CoverRecords, record_at, placed_record}
-use Rattle.bor_chains.specs.Alike.{CoverSign}
+use Rattle.bor_records.specs.Links.Alike.{CoverSign}
 use Rattle.bor_store_keys.specs.Signed.{record_standing, with_identifier, with_sign}
 use Rattle.bor_store_keys.specs.Viewed.{rows_seen}
 use Rattle.bor_store_keys.specs.declared.view.View.{View}

@@ -14,3 +14,11 @@ rows_seen view r = visible view.viewer view.today r.members
 -- their nodes and links on the day of the answer
 abbrev pub seen : View → Register → Shown
 seen view r = shown_of view.day (rows_seen view r)
+
+-- a register, as it is seen
+pub record Viewing : Type 0 where
+  pub view : View
+  pub register : Register
+
+abbrev pub shown_in : Viewing → Shown
+shown_in m = seen m.view m.register

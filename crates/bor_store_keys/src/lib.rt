@@ -20,6 +20,7 @@ mod lookup;
 mod nodes;
 mod opened;
 mod records;
+mod seen;
 mod view;
 mod views;
 

@@ -5,7 +5,7 @@ ghost use Rattle.std.specs.List.{filter_map};
 ghost use Rattle.bor_records.specs.Links.Answers.{AreLinksInto, only_into};
 ghost use Rattle.bor_records.specs.Links.Rows.{is_entity_info, link_between, nodes_of};
 ghost use Rattle.bor_records.specs.Links.Shown.{info_of};
-ghost use Rattle.bor_chains.specs.Candidates.{link_at, link_into};
+ghost use Rattle.bor_records.specs.Links.Candidates.{link_at, link_into};
 ghost use Rattle.bor_register.specs.Seen.{seen_at};
 ghost use Rattle.bor_store_reads.specs.Answering.{ReadsIn};
 ghost use Rattle.bor_store_keys.specs.Viewed.{rows_seen, seen};

@@ -22,11 +22,10 @@ use Rattle.bor_records.specs.Links.Series.{open_at}
 use Rattle.bor_records.proofs.OnLinks.ByKey.{listed_by_key}
 use Rattle.bor_records.specs.Links.Signs.{sign_cmp, signs}
 use Rattle.bor_records.proofs.OnLinks.Exact.{exact_node, exact_sign}
-use Rattle.bor_records.proofs.OnLinks.Found.{here, none}
+use Rattle.bor_records.proofs.OnLinks.Found.{here, none, one_of}
 use Rattle.bor_records.proofs.OnLinks.Listed.{found_is}
 use Rattle.bor_records.proofs.OnLinks.Sames.{alias_turn, same_turn}
-use Rattle.bor_records.proofs.OnLinks.Signs.{in_common}
-use Rattle.bor_chains.proofs.Classes.{common_alike, one_of}
+use Rattle.bor_records.proofs.OnLinks.Signs.{in_common, common_alike}
 use Rattle.bor_desk.specs.declared.evidence.kin.Kin.{Kin}
 use Rattle.bor_desk.specs.Kin.{AreKin, AreTaken, HasSignAt, IsKinOf, NoneFound, signed_in, signs_in}
 use Rattle.bor_desk.specs.Memory.Indexed.{IsNoted, values_under, under}

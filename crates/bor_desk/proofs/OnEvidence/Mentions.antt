@@ -30,7 +30,7 @@ use Rattle.bor_chains.specs.declared.tree.EvidenceLink.{EvidenceLink}
 use Rattle.bor_chains.specs.Chains.{IsChain}
 use Rattle.bor_chains.specs.Lines.{reading_cmp}
 use Rattle.bor_chains.specs.Evidence.{AreEvidenced, IsLinkOf}
-use Rattle.bor_chains.proofs.Aliasing.{node_of}
+use Rattle.bor_records.proofs.OnLinks.SignsOfRows.{node_of}
 use Rattle.bor_chains.proofs.OneAnswer.{one_sorted}
 use Rattle.bor_desk.specs.declared.evidence.lines.LinkEvidence.{LinkEvidence}
 use Rattle.bor_desk.specs.declared.evidence.lines.RecordEvidence.{RecordEvidence}

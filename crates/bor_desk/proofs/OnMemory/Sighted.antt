@@ -20,8 +20,8 @@ use Rattle.bor_records.specs.Links.Shown.{info_of, is_entity}
 use Rattle.bor_records.specs.Links.Signs.{signs}
 use Rattle.bor_records.proofs.OnLinks.ByKey.{listed_by_key, open_at_in}
 use Rattle.bor_records.proofs.OnLinks.Found.{here}
-use Rattle.bor_chains.specs.Alike.{CoverSign}
-use Rattle.bor_chains.specs.Candidates.{is_into, link_at, link_into, names}
+use Rattle.bor_records.specs.Links.Alike.{CoverSign}
+use Rattle.bor_records.specs.Links.Candidates.{is_into, link_at, link_into, names}
 use Rattle.bor_register.specs.declared.member.Member.{Member}
 use Rattle.bor_register.specs.Register.{IsOrdered}
 use Rattle.bor_register.specs.Rows.{visible}

@@ -1,6 +1,6 @@
 -- Facts that follow from an answer.
 use Rattle.std.proofs.Common.{◌≡◌, ℕ, Result, Ok, Err, IfOk, refl, ap, sym, subst}
-use Rattle.std.specs.Prelude.{IfErr, IfSome, OnErr, OnOk}
+use Rattle.std.specs.Prelude.{IfErr, IfSome, MatchResult, OnErr, OnOk}
 use Rattle.std.specs.Result.{result_map_both, result_ok}
 use Rattle.bor_records.specs.Promises.{counted}
 use Rattle.bor_register.specs.declared.fault.StoreFault.{StoreFault}
@@ -9,6 +9,10 @@ use Rattle.bor_register.specs.declared.fault.StoreFault.TheVariants.{Memory}
 pub told_then : {T F : Type 0} (r : Result T F) (P Q : T → Type 0) → ((x : T) → P x → Q x) → IfOk r P → IfOk r Q
 told_then (Ok x) P Q f h = f x h
 told_then (Err e) P Q f h = tt
+
+pub told_only : {T F : Type 0} (r : Result T F) (P : T → Type 0) (Q : F → Type 0) → MatchResult r P Q → IfOk r P
+told_only (Ok x) P Q h = h
+told_only (Err e) P Q h = tt
 
 pub told_always : {T F : Type 0} {P : Type 0} (r : Result T F) → P → IfOk r (λ x. P)
 told_always (Ok x) h = h

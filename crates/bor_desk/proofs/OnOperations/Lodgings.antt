@@ -1,5 +1,5 @@
 -- The refusals of a lodging, and the register after a refused one.
-use Rattle.std.proofs.Common.{◌≡◌, ℕ, ℤ, ◌+◌, ◌<◌, ◌≤◌, subst, List, [], ◌∷◌, ◌++◌, length, take, drop, get_or, set, map, true, false, Result, Ok, Err, refl, ◌∙◌, sym, ap, append_assoc, arith}
+use Rattle.std.proofs.Common.{◌≡◌, ℕ, ℤ, ◌+◌, ◌<◌, subst, List, [], ◌∷◌, ◌++◌, length, take, drop, get_or, set, map, true, false, Result, Ok, Err, refl, ◌∙◌, sym, ap, append_assoc, arith}
 use Rattle.std.specs.Prelude.{◌≢◌, ◌%◌, ◌^◌, Some, Bool, nat_le, int_lt, if◌then◌else◌}
 use Rattle.std.proofs.lemmas.Bool.{leb-false}
 use Rattle.std.proofs.lemmas.List.{take_more_set, get_or_default, get_or-set_same, drop_more, drop-set-lt, map-append}

@@ -21,15 +21,14 @@ ghost use Rattle.bor_register.specs.Seen.{seen_at};
 ghost use Rattle.bor_register.specs.Withdrawal.{has_successor};
 ghost use Rattle.bor_terms.specs.Texts.{is_below};
 
-use crate::memory::identified::identified_told;
 use crate::memory::index::{Index, StatementKey, node_named};
-use crate::memory::sames::{aliases_told, same_told};
+use crate::memory::records::Sighted;
 use crate::memory::sight::{Sight, links_told, node_told, row_told};
 use crate::memory::standing::{any_stands, last_known};
 use crate::memory::succession;
 use crate::operations::FILINGS_LIMIT;
 use bods_read::{Identifier, Statement};
-use bor_records::links::{Link, Node, NodeInfo};
+use bor_records::links::{Link, Node, NodeInfo, aliases, identified, same};
 use bor_records::{Last, Row};
 use bor_register::keeping::Keep;
 use bor_register::{
@@ -149,6 +148,15 @@ impl ListKeep {
         }
     }
 
+    // The same, as records that are read by key.
+    fn records_by<'a>(&'a self, index: &'a Index, viewer: &'a AgentName, day: Day) -> Sighted<'a>
+        requires { IsIndex self.now.register.members index.now }
+        ensures { result ≡ seen_at viewer.now day self.now.register }
+    {
+        let sight = self.sight_by(index, viewer, day);
+        Sighted { sight }
+    }
+
     // The maps, which are made again where they were let go. They are taken out, so that they can
     // be asked.
     fn take_maps(&mut self) -> Result<Index, AllocError>
@@ -196,7 +204,8 @@ impl ListKeep {
             AreAliases (seen_at viewer.now day self.old.register) node.now nodes.items) }
     {
         let index = self.take_maps()?;
-        let told = aliases_told(&self.sight_by(&index, viewer, day), node);
+        let mut records = self.records_by(&index, viewer, day);
+        let told = aliases(&mut records, self.alloc, node);
         self.put_maps(index);
         told
     }
@@ -212,7 +221,8 @@ impl ListKeep {
             AreIdentified (seen_at viewer.now day self.old.register) identifier.now nodes.items) }
     {
         let index = self.take_maps()?;
-        let told = identified_told(&self.sight_by(&index, viewer, day), identifier);
+        let mut records = self.records_by(&index, viewer, day);
+        let told = identified(&mut records, self.alloc, identifier);
         self.put_maps(index);
         told
     }
@@ -244,7 +254,8 @@ impl ListKeep {
             AreSame (seen_at viewer.now day self.old.register) node.now nodes.items) }
     {
         let index = self.take_maps()?;
-        let told = same_told(&self.sight_by(&index, viewer, day), node);
+        let mut records = self.records_by(&index, viewer, day);
+        let told = same(&mut records, self.alloc, node);
         self.put_maps(index);
         told
     }

@@ -14,10 +14,9 @@
 //! that are asked for. Where memory was wanting for the maps, the statements are looked at one by
 //! one, until an open record, a node or links are asked for: the maps are made again then.
 
-mod identified;
 mod index;
 mod list_keep;
-mod sames;
+mod records;
 mod sight;
 mod standing;
 mod succession;

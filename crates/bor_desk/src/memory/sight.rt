@@ -3,13 +3,12 @@
 ghost use Rattle.std.specs.Prelude.{◌≡◌, ◌++◌, [], true, None, Some, IfOk, OnOk, filter, map, option_map, option_and_then};
 ghost use Rattle.std.specs.List.{cons_option, filter_map, last_or};
 ghost use Rattle.bor_records.specs.Links.Answers.{AreLinksInto, only_into};
-ghost use Rattle.bor_records.specs.Links.ByKey.{node_at};
 ghost use Rattle.bor_records.specs.Links.Nodes.{same_node};
 ghost use Rattle.bor_records.specs.Links.Rows.{info_stated, is_entity_info, is_some_info, link_between, node_with, nodes_of};
 ghost use Rattle.bor_records.specs.Links.Series.{open_at};
-ghost use Rattle.bor_records.specs.Links.Shown.{info_of};
+ghost use Rattle.bor_records.specs.Links.Shown.{info_of, listed_at};
 ghost use Rattle.bor_records.specs.Snapshot.{unless_closed as row_unless_closed};
-ghost use Rattle.bor_chains.specs.Candidates.{link_at, link_into};
+ghost use Rattle.bor_records.specs.Links.Candidates.{link_at, link_into};
 ghost use Rattle.bor_desk.specs.Memory.Sited.{is_told, passes, row_sited, sited_at};
 ghost use Rattle.bor_register.specs.Rows.{row_of};
 ghost use Rattle.bor_desk.specs.Memory.Sighted.{IsIndexed, as_row, identifiers_in, in_sight, rows_in_sight, statement_open, statement_unless_closed};
@@ -24,7 +23,7 @@ use std::alloc::{AllocError, Global};
 
 /// The part of these members that a viewer sees on the register's day, `today`, as it stands on a
 /// day.
-#[derive(Clone, Copy)]
+#[derive(Drop)]
 pub(crate) struct Sight<'a> {
     pub(crate) alloc: Global,
     pub(crate) index: &'a Index,
@@ -251,7 +250,7 @@ fn node_with(alloc: Global, node: &Node, details: &Details) -> Result<Option<Ope
 /// A node with its identifiers; `None` where it isn't open.
 pub(crate) fn node_in(sight: &Sight, node: &Node) -> Result<Option<OpenNode>, AllocError>
     requires { IsIndexed sight.now }
-    ensures { IfOk result (λ one. one ≡ node_at sight.now.day node.now (rows_in_sight sight.now)) }
+    ensures { IfOk result (λ one. one ≡ listed_at (in_sight sight.now).nodes node.now) }
 {
     match open_statement(sight, node) {
         Some(statement) => node_with(sight.alloc, node, &statement.details),

@@ -1,5 +1,5 @@
 -- By what two entities may be alike.
-use Rattle.std.specs.Prelude.{true, false, ◌∷◌, List, map}
+use Rattle.std.specs.Prelude.{true, false, ◌∷◌, List, map, Contains, IsTrue}
 use Rattle.std.specs.Ordering.{ordering_then, bool_cmp}
 use Rattle.std.specs.declared.cmp.Ordering.{Ordering}
 use Rattle.bods_read.specs.declared.details.Identifier.{Identifier}
@@ -7,6 +7,7 @@ use Rattle.bor_records.specs.declared.links.node.Node.{Node}
 use Rattle.bor_records.specs.declared.links.node.OpenNode.{OpenNode}
 use Rattle.bor_records.specs.declared.links.sign.Sign.{Sign}
 use Rattle.bor_records.specs.Links.Nodes.{text_cmp}
+use Rattle.bor_records.specs.Links.Shown.{is_entity}
 
 -- by record or identifier, then agent or scheme, then kind
 abbrev pub sign_cmp : Sign → Sign → Ordering
@@ -23,3 +24,7 @@ by_identifier i = record { of_record = false; group = i.scheme; name = i.id }
 -- the agent with the record, and each identifier
 abbrev pub signs : OpenNode → List Sign
 signs x = by_record x.node ∷ map by_identifier x.identifiers
+
+-- an entity has the sign
+abbrev pub HasSign : OpenNode → Sign → Type 0
+HasSign x k = IsTrue (is_entity x.info) × Contains (signs x) k

@@ -18,17 +18,25 @@
 //! node. By the [`laws`] a node and its aliases can be read by their keys, and the links into a
 //! node by candidates, with no list of all rows.
 //!
+//! Whatever holds records that can be read by key is [`Records`]. Over it, [`same`] finds all nodes
+//! that stand for one entity, [`aliases`] those that are one step away, and [`identified`] the
+//! entities of an identifier.
+//!
 //! Left out: how links are followed, and who may see which rows.
 
 mod class;
 pub mod laws;
 mod node;
+mod records;
 mod rows;
+mod search;
 mod sign;
 mod stake;
 
 pub use class::{Class, once};
 pub use node::{Link, Node, NodeInfo, OpenNode};
+pub use records::Records;
 pub use rows::{info_stated, node_of, record_of};
+pub use search::{aliases, identified, same};
 pub use sign::Sign;
 pub use stake::{holding_of, stake_of};

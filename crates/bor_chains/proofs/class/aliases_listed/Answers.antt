@@ -5,9 +5,10 @@ use Rattle.std.specs.List.{filter_map, slice_get}
 use Rattle.bor_records.specs.declared.links.node.OpenNode.{OpenNode}
 use Rattle.bor_records.specs.Links.Shown.{is_entity}
 use Rattle.bor_records.specs.Links.Signs.{sign_cmp, signs}
-use Rattle.bor_chains.specs.Classes.{listed_node, entity_in, Expands}
+use Rattle.bor_chains.specs.Classes.{listed_node, entity_in, AddsPlaces}
 use Rattle.bor_chains.proofs.Signs.{under}
-use Rattle.bor_chains.proofs.Classes.{aliases_told, aliases_none, entity_is, empty_has}
+use Rattle.bor_chains.proofs.Classes.{aliases_told, aliases_none, entity_is}
+use Rattle.bor_records.proofs.OnLinks.Signs.{empty_has}
 use Rattle.bor_chains.proofs.class.aliases_listed.Goals as goal
 
 pub returns-in_default : goal.returns-in_default
@@ -21,5 +22,5 @@ returns c = λ s x e d u at.
     let same : c.in-Some.one.now ≡ x = same_Some c.in-Some.one.now x (sym one.0 ∙ at) in
     aliases_told s nodes x c.args.first (under c.args.places.now) c.new-found.result.items c.add_signs.new.found.items (λ k. contains sign_cmp c.new-seen.result k) (λ k. contains sign_cmp c.add_signs.new.seen k) c.in_ok-rough.rough.items _ e d u at
     (ap (λ (y : OpenNode). is_entity y.info) (sym same) ∙ one.1) c.new-found.ensures.items (λ k. empty_has sign_cmp c.new-seen.result k c.new-seen.ensures.empty)
-    (subst (λ (y : OpenNode). Expands nodes (under c.args.places.now) y (signs y) c.new-found.result.items c.add_signs.new.found.items (λ k. contains sign_cmp c.new-seen.result k) (λ k. contains sign_cmp c.add_signs.new.seen k)) same c.in_ok-add_signs.ensures)
+    (subst (λ (y : OpenNode). AddsPlaces nodes (under c.args.places.now) y (signs y) c.new-found.result.items c.add_signs.new.found.items (λ k. contains sign_cmp c.new-seen.result k) (λ k. contains sign_cmp c.add_signs.new.seen k)) same c.in_ok-add_signs.ensures)
     (c.in_ok-rough.ensures ∙ ap (λ (is : List ℕ). filter_map (λ i. listed_node (slice_get nodes i)) is) c.deref.ensures.value) c.in_ok-once.ensures.same c.in_ok-once.ensures.distinct

@@ -4,7 +4,8 @@ use Rattle.std.specs.BTreeSet.{contains}
 use Rattle.std.specs.Ordering.{nat_cmp}
 use Rattle.bor_records.specs.declared.links.node.OpenNode.{OpenNode}
 use Rattle.bor_records.specs.Links.Signs.{sign_cmp}
-use Rattle.bor_chains.proofs.Classes.{way_start, way_more, way_end, empty_has}
+use Rattle.bor_chains.proofs.Classes.{way_start, way_more, way_end}
+use Rattle.bor_records.proofs.OnLinks.Signs.{empty_has}
 use Rattle.bor_chains.proofs.class.all_same.Goals as goal
 
 pub loop-next-init : goal.loop-next-init

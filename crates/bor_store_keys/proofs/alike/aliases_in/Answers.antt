@@ -1,21 +1,11 @@
-use Rattle.std.proofs.Common.{List, Contains, ap, subst, sym, ◌++◌, ◌∙◌}
-use Rattle.std.specs.BTreeSet.{contains}
-use Rattle.std.specs.List.{IsDistinct}
-use Rattle.bor_records.specs.declared.links.node.Node.{Node}
-use Rattle.bor_records.specs.Links.Answers.{AreAliases}
-use Rattle.bor_records.specs.Links.Nodes.{same_node}
-use Rattle.bor_records.specs.Links.Signs.{sign_cmp}
-use Rattle.bor_register.proofs.Aliasing.{aliases_found}
-use Rattle.bor_chains.proofs.Classes.{empty_has}
-use Rattle.bor_store_reads.proofs.Reading.{read_so}
-use Rattle.bor_store_keys.specs.Viewed.{seen}
+use Rattle.std.proofs.Common.{refl}
+use Rattle.sqlite.specs.Held.{state}
+use Rattle.bor_store_keys.proofs.Holding.{read_noted}
 use Rattle.bor_store_keys.proofs.alike.aliases_in.Goals as goal
 
 pub returns : goal.returns
-returns g c = read_so c.in_ok-add_aliases.ensures
-    (λ r stored follows.
-    subst (λ (ns : List Node). AreAliases (seen c.args.view.now r) c.args.node.now ns) (sym c.into_nodes.ensures.same)
-    (aliases_found (seen c.args.view.now r) c.args.node.now c.add_aliases.new.class (λ k. contains sign_cmp c.new-looked.result k) (λ k. contains sign_cmp c.add_aliases.new.looked k)
-    (λ k. empty_has sign_cmp c.new-looked.result k c.new-looked.ensures.empty)
-    (λ b h. follows.each b (subst (λ (ns : List Node). Contains ns b) (follows.begins ∙ ap (λ (ns : List Node). ns ++ follows.rest) c.new-class.ensures) h))
-    follows.looked follows.fresh (subst (λ (ns : List Node). IsDistinct same_node ns) c.into_nodes.ensures.same c.into_nodes.ensures.distinct)))
+returns g c = read_noted (state g.S.Store) (c.lookup-1.given.1 c.aliases.ensures.leads.0) (record {
+  reads = c.aliases.ensures.leads.2;
+  up = c.aliases.ensures.lasts;
+  answer = λ clean r shows. c.aliases.ensures.answer clean (record { view = c.args.view.now; register = r }) (refl, shows);
+})

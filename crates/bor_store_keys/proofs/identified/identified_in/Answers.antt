@@ -1,28 +1,17 @@
-use Rattle.std.proofs.Common.{List, subst, sym}
-use Rattle.std.specs.List.{IsDistinct}
-use Rattle.bor_records.specs.declared.links.node.Node.{Node}
-use Rattle.bor_records.specs.declared.links.sign.Sign.{Sign}
-use Rattle.bor_records.specs.Links.Answers.{AreIdentified}
-use Rattle.bor_records.specs.Links.Growth.{Grown}
-use Rattle.bor_records.specs.Links.Nodes.{same_node}
-use Rattle.bor_records.specs.Links.Shown.{is_identified}
-use Rattle.bor_chains.specs.Alike.{CoverSign}
-use Rattle.bor_chains.specs.Candidates.{IsFitIn}
-use Rattle.bor_chains.proofs.Identifying.{are_identified}
-use Rattle.bor_store_reads.proofs.Reading.{read_next, read_so}
-use Rattle.bor_store_keys.specs.Viewed.{rows_seen, seen}
-use Rattle.bor_store_keys.proofs.Signing.{sign_covered}
+use Rattle.std.proofs.Common.{refl}
+use Rattle.sqlite.specs.Held.{state}
+use Rattle.bor_records.proofs.OnLinks.Series.{nodes_distinct}
+use Rattle.bor_store_reads.proofs.Found.{answered}
+use Rattle.bor_store_keys.specs.Viewed.{rows_seen}
+use Rattle.bor_store_keys.proofs.Holding.{read_noted}
 use Rattle.bor_store_keys.proofs.identified.identified_in.Goals as goal
 
 pub returns : goal.returns
-returns g c =
-    let view = c.args.view.now in
-    let i = c.args.identifier.now in
-    let candidates = c.in_ok-candidates.candidates.items in
-    read_so (read_next c.in_ok-candidates.ensures c.in_ok-add_identified.ensures)
-    (λ r stored is.
-    subst (λ (ns : List Node). AreIdentified (seen view r) i ns) (sym c.into_nodes.ensures.same)
-    (are_identified view.day (rows_seen view r) i candidates c.new-found.result c.add_identified.new.found
-    (subst (λ (k : Sign). CoverSign (rows_seen view r) k candidates) c.in_ok-sign.ensures (sign_covered view r stored c.in_ok-sign.sign candidates is.0)) c.new-found.ensures
-    (subst (λ (ns : List Node). Grown (IsFitIn view.day (rows_seen view r) (is_identified i) ns) c.new-found.result c.add_identified.new.found) c.deref.ensures.value is.1)
-    (subst (λ (ns : List Node). IsDistinct same_node ns) c.into_nodes.ensures.same c.into_nodes.ensures.distinct)))
+returns g c = read_noted (state g.S.Store) (c.lookup-1.given.1 c.identified.ensures.leads.0) (record {
+  reads = c.identified.ensures.leads.2;
+  up = c.identified.ensures.lasts;
+  answer = λ clean r shows.
+      let view = c.args.view.now in
+      answered c.identified.result _ _ (λ nodes h. h (nodes_distinct view.day (rows_seen view r)))
+      (c.identified.ensures.answer clean (record { view = view; register = r }) (refl, shows));
+})

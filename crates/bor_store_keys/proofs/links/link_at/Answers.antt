@@ -1,6 +1,6 @@
 use Rattle.std.proofs.Common.{option_and_then, sym, ap, ◌∙◌}
 use Rattle.bor_store_reads.proofs.Reading.{read_as, read_next}
-use Rattle.bor_chains.specs.Candidates.{link_into}
+use Rattle.bor_records.specs.Links.Candidates.{link_into}
 use Rattle.bor_store_keys.specs.Viewed.{rows_seen}
 use Rattle.bor_store_keys.proofs.links.link_at.Goals as goal
 

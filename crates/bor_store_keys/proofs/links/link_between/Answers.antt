@@ -1,7 +1,7 @@
 use Rattle.std.proofs.Common.{◌∙◌, sym}
 use Rattle.std.proofs.lemmas.Bool.{not-false}
 use Rattle.bor_records.specs.Links.Rows.{nodes_of}
-use Rattle.bor_chains.proofs.ByRecord.{link_is}
+use Rattle.bor_records.proofs.OnLinks.ByRecord.{link_is}
 use Rattle.bor_store_reads.proofs.Reading.{read_so}
 use Rattle.bor_store_keys.specs.Viewed.{rows_seen}
 use Rattle.bor_store_keys.proofs.links.link_between.Goals as goal

@@ -1,7 +1,7 @@
 use Rattle.std.proofs.Common.{ap, sym, ◌∙◌}
 use Rattle.std.specs.List.{filter_map}
-use Rattle.bor_chains.specs.Candidates.{link_at}
-use Rattle.bor_chains.proofs.ByRecord.{links_told, no_links}
+use Rattle.bor_records.specs.Links.Candidates.{link_at}
+use Rattle.bor_records.proofs.OnLinks.ByRecord.{links_told, no_links}
 use Rattle.bor_store_reads.proofs.Reading.{read_as, read_next, read_so}
 use Rattle.bor_store_keys.specs.Viewed.{rows_seen}
 use Rattle.bor_store_keys.proofs.Recording.{into_covered}

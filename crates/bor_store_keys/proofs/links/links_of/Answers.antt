@@ -1,10 +1,10 @@
 use Rattle.bor_store_reads.proofs.Lists.{all_done}
 use Rattle.std.proofs.Common.{arith, rules, refl}
 use Rattle.std.specs.List.{filter_map}
-use Rattle.bor_chains.specs.Candidates.{link_at}
+use Rattle.bor_records.specs.Links.Candidates.{link_at}
 use Rattle.bor_store_reads.proofs.Reading.{read_next, read_so, unread}
 use Rattle.bor_store_keys.specs.Viewed.{rows_seen}
-use Rattle.bor_chains.proofs.Linking.{one_more}
+use Rattle.bor_records.proofs.OnLinks.Linking.{one_more}
 use Rattle.bor_store_keys.proofs.links.links_of.Goals as goal
 
 pub loop-one-init : goal.loop-one-init

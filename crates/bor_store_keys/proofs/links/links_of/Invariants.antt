@@ -3,7 +3,7 @@ use Rattle.std.specs.List.{filter_map}
 use Rattle.sqlite.specs.Held.{state}
 use Rattle.bor_records.specs.Links.Rows.{is_entity_info}
 use Rattle.bor_records.specs.Links.Shown.{info_of}
-use Rattle.bor_chains.specs.Candidates.{link_at}
+use Rattle.bor_records.specs.Links.Candidates.{link_at}
 use Rattle.bor_store_reads.specs.Answering.{ReadsAs}
 use Rattle.bor_store_keys.specs.Viewed.{rows_seen, seen}
 use Rattle.bor_store_keys.proofs.links.links_of.Given as goal

@@ -5,7 +5,7 @@ use Rattle.bor_records.specs.declared.links.node.Node.{Node}
 use Rattle.bor_store_sql.specs.declared.rows.typed.IdentifierRow.{IdentifierRow}
 use Rattle.bor_store_reads.proofs.Reading.{read_next, read_so, unread}
 use Rattle.bor_store_keys.specs.Signed.{record_standing}
-use Rattle.bor_chains.proofs.Linking.{one_more}
+use Rattle.bor_records.proofs.OnLinks.Linking.{one_more}
 use Rattle.bor_store_keys.proofs.records.records_standing.Goals as goal
 
 pub loop-row-init : goal.loop-row-init

@@ -4,7 +4,7 @@ use Rattle.bor_records.specs.declared.links.node.Node.{Node}
 use Rattle.bor_records.specs.Links.Answers.{only_into}
 use Rattle.bor_records.specs.Links.Orders.{node_equiv}
 use Rattle.bor_records.specs.Links.Rows.{link_between, nodes_of}
-use Rattle.bor_chains.proofs.ByRecord.{link_is}
+use Rattle.bor_records.proofs.OnLinks.ByRecord.{link_is}
 use Rattle.bor_desk.specs.Memory.Sighted.{rows_in_sight}
 use Rattle.bor_desk.proofs.memory.sight.link_from.Goals as goal
 

@@ -1,7 +1,7 @@
 use Rattle.std.proofs.Common.{arith}
 use Rattle.std.specs.List.{filter_map}
-use Rattle.bor_chains.specs.Candidates.{link_at}
-use Rattle.bor_chains.proofs.Linking.{one_more}
+use Rattle.bor_records.specs.Links.Candidates.{link_at}
+use Rattle.bor_records.proofs.OnLinks.Linking.{one_more}
 use Rattle.bor_desk.specs.Memory.Sighted.{rows_in_sight}
 use Rattle.bor_desk.proofs.memory.sight.links_of.Goals as goal
 

@@ -2,7 +2,7 @@ use Rattle.std.proofs.Common.{◌≡◌, ◌++◌, true, drop}
 use Rattle.std.specs.List.{filter_map}
 use Rattle.bor_records.specs.Links.Rows.{is_entity_info}
 use Rattle.bor_records.specs.Links.Shown.{info_of}
-use Rattle.bor_chains.specs.Candidates.{link_at}
+use Rattle.bor_records.specs.Links.Candidates.{link_at}
 use Rattle.bor_desk.specs.Memory.Sighted.{in_sight, rows_in_sight}
 use Rattle.bor_desk.proofs.memory.sight.links_of.Given as goal
 

@@ -1,9 +1,5 @@
-use Rattle.std.proofs.Common.{◌≡◌, ◌∙◌, Option, Some, Result, Ok, Err, ap, inl, inr, refl, sym, subst, false, true}
+use Rattle.std.proofs.Common.{◌≡◌, ◌∙◌, Some, Ok, Err, ap, inl, inr, refl, sym, subst, false, true}
 use Rattle.std.specs.Fn.{FnOnceReturnsAtMut}
-use Rattle.std.specs.Result.{is_ok}
-use Rattle.bor_register.specs.Register.{Register}
-use Rattle.bor_register.specs.declared.fault.StoreFault.{StoreFault}
-use Rattle.bor_desk.specs.Memory.Holding.{Holding}
 use Rattle.bor_desk.specs.Mirror.Reading.{HasAnswered, IsReadOfEither, of_mirror, of_store}
 use Rattle.bor_desk.proofs.OnMirror.Mirroring.{answer_of, register_in}
 use Rattle.bor_desk.proofs.mirror.mirrored_keep.MirroredKeep.read.Given.{Over}

@@ -1,0 +1,67 @@
+//! What a viewer sees of a register in memory, as records that are read by key.
+
+use crate::memory::index::Index;
+use crate::memory::sight::{Sight, node_in};
+use bor_records::links::{Node, OpenNode, Records, Sign};
+use std::alloc::AllocError;
+use std::marker::Model;
+
+/// The part of a register in memory that a viewer sees, as nodes and links.
+#[derive(Drop)]
+pub(crate) struct Sighted<'a> {
+    pub(crate) sight: Sight<'a>,
+}
+
+impl<'a> Model for Sighted<'a> {
+    ghost use Rattle.bor_records.specs.Links.Shown.{Shown};
+    ghost use Rattle.bor_desk.specs.Memory.Sighted.{IsIndexed, in_sight};
+
+    ghost Value = { Shown };
+
+    ghost view = { λ x. in_sight x.sight };
+
+    ghost invariant = { λ x. IsIndexed x.sight };
+}
+
+// A read leaves all as it is, and fails for want of memory alone.
+impl<'a> Records for Sighted<'a> {
+    ghost use Rattle.std.specs.Prelude.{◌≡◌, refl};
+    ghost use Rattle.std.proofs.Common.{◌∙◌, sym};
+    ghost use Rattle.bor_records.specs.Links.Shown.{Shown};
+
+    type Fault = AllocError;
+
+    type Nodes = &'a [Node];
+
+    ghost Content = { Shown };
+
+    ghost shown = { λ s. s };
+
+    ghost reading = { record {
+      shows = λ x s. x ≡ s;
+      is_clean = λ x. Unit {0};
+      leads = λ a b. a ≡ b;
+      lasts = λ a b. Unit {0};
+      may_tell = λ fault. Unit {0};
+    } };
+
+    fn open(&mut self, node: &Node) -> Result<Option<OpenNode>, AllocError> {
+        node_in(&self.sight, node)
+    }
+
+    fn signed(&mut self, sign: &Sign) -> Result<&'a [Node], AllocError> {
+        let index: &'a Index = self.sight.index;
+        Ok(index.signed(sign))
+    }
+
+    ghost goes_on = { record {
+      none = λ a. refl;
+      more = λ a b c first second. first ∙ second;
+      lasts_none = λ a. tt;
+      lasts_more = λ a b c leads first second. tt;
+      began = λ a b leads clean. tt;
+      kept = λ a b s leads clean shown. sym leads ∙ shown;
+    } };
+
+    ghost tells_memory = { λ error fault gives. tt };
+}

@@ -1,0 +1,61 @@
+-- One read after another, and what is made of what was read.
+use Rattle.std.proofs.Common.{◌≡◌, sym, subst, Result, Ok, Err, IfOk, MatchResult}
+use Rattle.std.specs.Prelude.{IsErrAnd}
+use Rattle.bor_records.specs.Reading.{Finds, GoesOn, Reading}
+
+-- an error says nothing of it
+not_answered : {X Y : Type 0} (P : Type 0) (Q : Y → Type 0) (result : Result X Y) → IsErrAnd result Q → IfOk result (λ x. P)
+not_answered P Q (Ok x) told = absurd told
+not_answered P Q (Err e) told = tt
+
+answered : {X F : Type 0} (tell : F → Type 0) (result : Result X F) (P Q : X → Type 0) → ((x : X) → P x → Q x) → MatchResult result P tell → MatchResult result Q tell
+answered tell (Ok x) P Q so h = so x h
+answered tell (Err e) P Q so h = h
+
+failed : {X F : Type 0} (tell Told : F → Type 0) (result : Result X F) (Q : X → Type 0) → IsErrAnd result Told → ((e : F) → Told e → tell e) → MatchResult result Q tell
+failed tell Told (Ok x) Q told so = absurd told
+failed tell Told (Err e) Q told so = so e told
+
+after : {X F : Type 0} {A B : Type 0} (result : Result X F) → (A → B) → IfOk result (λ x. A) → IfOk result (λ x. B)
+after (Ok x) so a = so a
+after (Err e) so a = tt
+
+module _ {S V F : Type 0} {r : Reading S V F} where
+  -- without a read
+  pub unread : {X : Type 0} {s : S} {x : X} {P : V → X → Type 0} → GoesOn r → ((v : V) → P v x) → Finds r s s (Ok x) P
+  unread {X} {s} on so = record { leads = on.none s; lasts = on.lasts_none s; answer = λ clean v shown. so v }
+
+  -- another value is made of what was read
+  pub read_so : {X Y : Type 0} {old new : S} {x : X} {y : Y} {P : V → X → Type 0} {Q : V → Y → Type 0} → Finds r old new (Ok x) P → ((v : V) → P v x → Q v y) → Finds r old new (Ok y) Q
+  read_so was so = record { leads = was.leads; lasts = was.lasts; answer = λ clean v shown. so v (was.answer clean v shown) }
+
+  -- an answer in other words
+  pub read_as : {X : Type 0} {old new : S} {result : Result X F} {P Q : V → X → Type 0} → Finds r old new result P → ((v : V) (x : X) → P v x → Q v x) → Finds r old new result Q
+  read_as {X} {old} {new} {result} {P} {Q} was so = record { leads = was.leads; lasts = was.lasts; answer = λ clean v shown. answered r.may_tell result (P v) (Q v) (so v) (was.answer clean v shown) }
+
+  -- what was read first is so too
+  pub read_next : {X Y : Type 0} {old mid new : S} {x : X} {result : Result Y F} {P : V → X → Type 0} {Q : V → Y → Type 0} → GoesOn r → Finds r old mid (Ok x) P → Finds r mid new result Q → Finds r old new result (λ v y. P v x × Q v y)
+  read_next {X} {Y} {old} {mid} {new} {x} {result} {P} {Q} on first second = record {
+    leads = on.more old mid new first.leads second.leads;
+    lasts = after result (on.lasts_more old mid new second.leads first.lasts) second.lasts;
+    answer = λ clean v shown.
+        let began = on.began mid new second.leads clean in
+        let was = first.answer began v shown in
+        answered r.may_tell result (Q v) (λ y. P v x × Q v y) (λ y is. (was, is)) (second.answer clean v (on.kept old mid v first.leads began shown));
+  }
+
+  -- the fault of a read is handed on
+  pub read_fails : {X Y : Type 0} {P : V → X → Type 0} {Q : V → Y → Type 0} {old new : S} {error : F} {result : Result Y F} → IsErrAnd result (λ e. e ≡ error) → Finds r old new (Err error) P → Finds r old new result Q
+  read_fails {X} {Y} {P} {Q} {old} {new} {error} {result} told was = record {
+    leads = was.leads;
+    lasts = not_answered _ _ result told;
+    answer = λ clean v shown. failed r.may_tell (λ e. e ≡ error) result (Q v) told (λ e same. subst r.may_tell (sym same) (was.answer clean v shown));
+  }
+
+  -- memory is wanting
+  pub read_wants : {X Y : Type 0} {P : V → X → Type 0} {Q : V → Y → Type 0} {old new : S} {x : X} {result : Result Y F} (Told : F → Type 0) → ((e : F) → Told e → r.may_tell e) → IsErrAnd result Told → Finds r old new (Ok x) P → Finds r old new result Q
+  read_wants {X} {Y} {P} {Q} {old} {new} {x} {result} Told tells told was = record {
+    leads = was.leads;
+    lasts = not_answered _ _ result told;
+    answer = λ clean v shown. failed r.may_tell Told result (Q v) told tells;
+  }

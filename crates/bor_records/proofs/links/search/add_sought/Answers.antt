@@ -1,0 +1,23 @@
+use Rattle.std.proofs.Common.{arith, rules, List, subst}
+use Rattle.std.proofs.lemmas.List.{take_all}
+use Rattle.bor_records.specs.declared.links.node.Node.{Node}
+use Rattle.bor_records.specs.Links.Candidates.{IsFoundIn}
+use Rattle.bor_records.specs.Links.Growth.{Grown}
+use Rattle.bor_records.proofs.OnLinks.Sought.{found_more}
+use Rattle.bor_records.proofs.ReadingLaws.{read_next, read_so, unread, read_fails}
+use Rattle.bor_records.proofs.links.search.add_sought.Goals as goal
+
+pub loop-candidate-init : goal.loop-candidate-init
+loop-candidate-init g c = unread g.met.R.Records.goes_on (λ m. search rules)
+
+pub loop-candidate-preserved : goal.loop-candidate-preserved
+loop-candidate-preserved g c = read_so (read_next g.met.R.Records.goes_on c.loop-candidate.invariant c.in_ok-add_if_sought.ensures)
+    (λ m is.
+    found_more (g.R.Records.shown m) c.args.sought.now c.args.candidates.now c.loop-candidate.candidate-index c.candidate-item.result c.args.found.now c.loop-candidate.found c.add_if_sought.new.found (omega arith) c.candidate-item.is is.0 is.1)
+
+pub returns : goal.returns
+returns g c = read_so c.loop-candidate.invariant
+    (λ m is. subst (λ (ns : List Node). Grown (IsFoundIn (g.R.Records.shown m) c.args.sought.now ns) c.args.found.now c.loop-candidate.found) (take_all c.loop-candidate.candidate-index c.args.candidates.now (omega arith)) is)
+
+pub returns-in_err-add_if_sought : goal.returns-in_err-add_if_sought
+returns-in_err-add_if_sought g c = read_fails c.from_residual.ensures.1 (read_next g.met.R.Records.goes_on c.loop-candidate.invariant c.in_err-add_if_sought.ensures)

@@ -1,0 +1,52 @@
+-- The results of candidates: links into a node, and nodes that are sought; for clauses of private
+-- functions alone.
+use Rattle.std.specs.Prelude.{◌≡◌, ℕ, ℤ, List, Contains, Bool, true, false, ◌&&◌, Option, Some}
+use Rattle.std.specs.Prelude.{None, option_and_then}
+use Rattle.bor_terms.specs.Texts.{is_same}
+use Rattle.bods_read.specs.declared.details.Details.{Details}
+use Rattle.bods_read.specs.declared.details.Details.TheVariants as details
+use Rattle.bods_read.specs.declared.statement.Statement.{Statement}
+use Rattle.bor_records.specs.declared.row.Row.{Row}
+use Rattle.bor_records.specs.declared.links.node.Node.{Node}
+use Rattle.bor_records.specs.declared.links.node.OpenNode.{OpenNode}
+use Rattle.bor_records.specs.declared.links.node.Link.{Link}
+use Rattle.bor_records.specs.Links.Series.{open_at}
+use Rattle.bor_records.specs.Links.Shown.{Shown, is_identified, is_like, listed_at}
+use Rattle.bor_records.specs.declared.links.search.Sought.{Sought}
+use Rattle.bor_records.specs.declared.links.search.Sought.TheVariants as sought
+use Rattle.bor_records.specs.Links.Answers.{only_into}
+use Rattle.bor_records.specs.Links.Rows.{nodes_of, link_in}
+
+-- a relationship whose subject has the identifier
+abbrev pub names : List ℕ → Details → Bool
+names rec (details.Entity kind name identifiers) = false
+names rec (details.Person kind name) = false
+names rec (details.Relationship None party interests) = false
+names rec (details.Relationship (Some subject) party interests) = is_same subject rec
+
+-- such a relationship beside a node: of its agent and declaration
+abbrev pub is_into : Node → List ℕ → Statement → Bool
+is_into n agent s =
+    is_same agent n.agent && (is_same s.declaration n.declaration && names n.rec s.details)
+
+-- the link into the node that a row makes, were it the latest of its series
+abbrev pub link_into : ℤ → List Row → Node → Row → Option Link
+link_into day rows n r = only_into n (link_in day (nodes_of day rows) r)
+
+-- the link into the node that a series makes
+abbrev pub link_at : ℤ → List Row → Node → Node → Option Link
+link_at day rows n k = option_and_then (link_into day rows n) (open_at day k rows)
+
+-- what is open of a record is what is sought
+abbrev pub is_sought : Sought → Option OpenNode → Bool
+is_sought (sought.Like one) o = is_like one.now o
+is_sought (sought.Identified identifier) o = is_identified identifier.now o
+
+-- the candidate, where it is sought
+abbrev pub IsFound : Shown → Sought → Node → Node → Type 0
+IsFound s what candidate n = (n ≡ candidate) × (is_sought what (listed_at s.nodes n) ≡ true)
+
+-- one of the candidates that are
+abbrev pub IsFoundIn : Shown → Sought → List Node → Node → Type 0
+IsFoundIn s what candidates n =
+    Contains candidates n × (is_sought what (listed_at s.nodes n) ≡ true)

@@ -1,0 +1,53 @@
+//! Records that are read by key, one at a time.
+
+ghost use Rattle.std.specs.Prelude.{◌≡◌};
+ghost use Rattle.std.specs.declared.alloc.AllocError.{AllocError};
+ghost use Rattle.bor_records.specs.Reading.{Finds, GoesOn, Reading};
+ghost use Rattle.bor_records.specs.Links.Answers.{HaveSigned};
+ghost use Rattle.bor_records.specs.Links.Shown.{Shown, listed_at};
+
+use crate::links::node::{Node, OpenNode};
+use crate::links::sign::Sign;
+use std::alloc::AllocError;
+use std::convert::AsSlice;
+
+/// Records of a register, as they stand for a viewer on a day, read by key. They may be in memory,
+/// or in tables over a connection that fails.
+///
+/// What a state shows is a relation (`reading.shows`), and what is shown has open nodes (`shown`). A
+/// read that ends clean leaves what is shown, and then its answer is of that, and its fault one that
+/// it may answer (`reading.may_tell`). What else it leaves as it was is for those who implement this
+/// to say (`reading.leads`, and `reading.lasts` where it answers): reads one after another do too.
+pub trait Records {
+    /// Why a read had no answer. Want of memory is one such fault.
+    type Fault: Drop + From<AllocError>;
+
+    /// Nodes, lent or made.
+    type Nodes: AsSlice<Node> + Drop;
+
+    /// What a state shows.
+    ghost Content: { Type 0 };
+
+    /// The open nodes of what is shown.
+    ghost shown: { Content → Shown };
+
+    /// What reads do.
+    ghost reading: { Reading Self Content Self.Fault };
+
+    /// The node that a record makes, with its identifiers; `None` where it isn't open.
+    fn open(&mut self, node: &Node) -> Result<Option<OpenNode>, Self::Fault>
+        ensures { Finds reading self.old self.new result (λ m one.
+            one ≡ listed_at (shown m).nodes node.now) };
+
+    /// Records among which are those of all open entities that have a sign.
+    fn signed(&mut self, sign: &Sign) -> Result<Self::Nodes, Self::Fault>
+        ensures { Finds reading self.old self.new result (λ m nodes.
+            HaveSigned (shown m) sign.now (Self.Nodes.items nodes)) };
+
+    /// Reads one after another are as one.
+    ghost goes_on: { GoesOn reading };
+
+    /// A read may fail for want of memory.
+    ghost tells_memory: { (error : AllocError) (fault : Self.Fault)
+        → Self.Fault.from_gives error fault → reading.may_tell fault };
+}
