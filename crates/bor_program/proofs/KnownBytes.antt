@@ -1,8 +1,8 @@
 -- The known bytes that a loop of reads has taken, and that a loop of writes has given.
-use Rattle.std.proofs.Common.{◌≡◌, ◌∙◌, ◌≤◌, ◌<◌, ◌-◌, ℕ, List, [], ◌++◌, Option, Some, None, IfSome, Result, Ok, Err, ap, arith, sym, length, take, append-nil, subst, lit≤}
+use Rattle.std.proofs.Common.{◌≡◌, ◌∙◌, ◌≤◌, ◌<◌, ◌-◌, ℕ, List, [], ◌++◌, Option, Some, None, IfSome, Result, Ok, Err, ap, arith, sym, length, take, drop, append-nil, append_assoc, take-append-drop, subst, lit≤}
 use Rattle.std.specs.Io.KnownBytes.{Appends, Consumes, IsAtEnd, Keeps, ReadConsumes}
-use Rattle.std.proofs.KnownBytes.{Consumes-trans}
-use Rattle.std.proofs.lemmas.List.{take-append-le, take_all}
+use Rattle.std.proofs.KnownBytes.{Appends-trans, Consumes-trans}
+use Rattle.std.proofs.lemmas.List.{length-drop, take-append-le, take_all}
 use Rattle.bor_program.specs.Streams.{TakesAtMostPart, TakesPart, part_read}
 
 -- what was read is what is to be read of a file, and no more was taken
@@ -49,6 +49,14 @@ took_none (Some xs) (Some ys) h = ([], lit≤ tt, sym h)
 abbrev pub IsWritten : Option (List ℕ) → Option (List ℕ) → List ℕ → List ℕ → Type 0
 IsWritten before after bytes rest = (front : List ℕ) × (bytes ≡ front ++ rest) × Appends before after front
 
+-- a write took some of what was left
+pub written_more : (before middle after : Option (List ℕ)) (bytes rest : List ℕ) (count : ℕ) → IsWritten before middle bytes rest
+    → Appends middle after (take count rest) → IsWritten before after bytes (drop count rest)
+written_more before middle after bytes rest count h e =
+    let split : bytes ≡ (h.0 ++ take count rest) ++ drop count rest =
+    h.1 ∙ ap (λ l. h.0 ++ l) (sym (take-append-drop count rest)) ∙ sym (append_assoc h.0 (take count rest) (drop count rest)) in
+    (h.0 ++ take count rest, split, Appends-trans before middle after h.0 (take count rest) h.2 e)
+
 -- a read into some room that gave nothing found the end
 pub read_nothing : {E : Type 0} (before after : Option (List ℕ)) (result : Result ℕ E) (count : ℕ) (buf : List ℕ)
     → ReadConsumes before after result buf → result ≡ Ok count → count ≡ 0 → 0 < length buf → Consumes before after [] × IsAtEnd after
@@ -56,3 +64,9 @@ read_nothing before after (Ok n) count buf h e none room =
     let zero : n ≡ 0 = cc in
     (subst (λ k. Consumes before after (take k buf)) zero h.0, h.1 zero room)
 read_nothing before after (Err error) count buf h e none room = cc
+
+-- a list from a place on is what is left of it there
+pub rest_from : (place : ℕ) (xs : List ℕ) → take (length xs - place) (drop place xs) ≡ drop place xs
+rest_from place xs =
+    let e : length (drop place xs) ≡ length xs - place = length-drop place xs in
+    take_all (length xs - place) (drop place xs) (omega arith)
