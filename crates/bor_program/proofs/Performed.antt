@@ -1,6 +1,6 @@
 -- Facts that follow on a run from the output of the command that it performed.
 use Rattle.bor_records.specs.Promises.{Meaning}
-use Rattle.std.proofs.Common.{◌≡◌, ◌≤◌, ℕ, ℤ, List, Bool, Option, Some, None, IsSome, IsTrue, ◌∙◌, arith, inl, inr, refl, sym, subst, true, false, if◌then◌else◌}
+use Rattle.std.proofs.Common.{◌≡◌, ℕ, List, Bool, Option, Some, None, IsSome, IsTrue, ◌∙◌, arith, inl, inr, refl, sym, subst, true, false, if◌then◌else◌}
 use Rattle.std.specs.Borrow.{Bor}
 use Rattle.std.specs.Io.KnownBytes.{Keeps}
 use Rattle.clap.specs.Words.{Text as Words}

@@ -1,14 +1,13 @@
 -- Bytes that are written part by part, and how replies end.
 use Rattle.bor_register.specs.declared.fault.StoreFault.{StoreFault}
 use Rattle.std.proofs.Common.{◌≡◌, ◌∙◌, ◌≤◌, ◌⊎◌, ℕ, List, [], ◌∷◌, ◌++◌, Option, Some, None, Result, Ok, Err, ap, arith, inl, inr, refl, sym, subst, true, false, Bool, max, ◌+◌, ◌/◌, ◌<◌, IfSome, length, option_map, take, append-nil, append_assoc, lit≤}
-use Rattle.std.specs.Prelude.{⊤}
+use Rattle.std.specs.Prelude.{◌≢◌, ⊤}
 use Rattle.std.specs.Borrow.{Bor}
 use Rattle.std.specs.Io.KnownBytes.{Appends, Keeps}
 use Rattle.std.proofs.KnownBytes.{Appends-trans}
 use Rattle.std.proofs.lemmas.Bool.{le-leb, lt-leb}
 use Rattle.clap.specs.Words.{Text as Words}
-use Rattle.bor_wire.specs.declared.replies.Reply.{Reply}
-use Rattle.bor_wire.specs.declared.replies.Reply.TheVariants.{Full, Unavailable}
+use Rattle.bor_wire.specs.Sent.{Sent, Full, Unavailable, TellsStatus, status_sent}
 use Rattle.bor_desk.specs.declared.text.Text.{Text}
 use Rattle.bor_program.specs.declared.status.Status.{Status}
 use Rattle.bor_program.specs.declared.status.Status.TheVariants.{Done, Refused, Usage, Failed}
@@ -56,8 +55,8 @@ read_whole (Some bytes) limit items before e h = h ∙ ap (λ l. l ++ take limit
 
 -- ---- ends that are not told yet
 
-pub sends_err : {F : Type 0} (P : List (List ℕ) → List Reply → Type 0) (inputs : List (List ℕ)) (before after : Option (List ℕ)) (end : Result Status F)
-    → is_err end ≡ true → ((replies : List Reply) × P inputs replies × AppendsPart before after (sent replies)) ⊎ (P [] [] × Keeps before after)
+pub sends_err : {F : Type 0} (P : List (List ℕ) → List Sent → Type 0) (inputs : List (List ℕ)) (before after : Option (List ℕ)) (end : Result Status F)
+    → is_err end ≡ true → ((replies : List Sent) × P inputs replies × AppendsPart before after (sent replies)) ⊎ (P [] [] × Keeps before after)
     → EndsSending P inputs before after end
 sends_err P inputs before after (Err failure) e h = h
 sends_err P inputs before after (Ok status) e h = cc
@@ -80,9 +79,9 @@ worse_done status read code e low (inr h) =
     let three : exit_code read ≡ 3 = ap exit_code h in
     absurd (omega (arith, e, low, three))
 
-pub ends_read : (P : List (List ℕ) → List Reply → Type 0) (Reads : Bor Words → List ℕ → Type 0) (inputs : List (List ℕ)) (names : List (Bor Words)) (before after : Option (List ℕ)) (status read : Status) (code : ℕ)
+pub ends_read : (P : List (List ℕ) → List Sent → Type 0) (Reads : Bor Words → List ℕ → Type 0) (inputs : List (List ℕ)) (names : List (Bor Words)) (before after : Option (List ℕ)) (status read : Status) (code : ℕ)
     → code ≡ max (exit_code status) (exit_code read) → (read ≡ Done) ⊎ (read ≡ Failed) → AreReadOf Reads names inputs → (code ≤ 1 → length inputs ≡ length names)
-    → ((replies : List Reply) × P inputs replies × Appends before after (sent replies) × (exit_code status ≡ replies_status replies)) → EndsFiles P Reads names before after code
+    → ((replies : List Sent) × P inputs replies × Appends before after (sent replies) × (exit_code status ≡ replies_status replies)) → EndsFiles P Reads names before after code
 ends_read P Reads inputs names before after status read code e (inl h) are counted s =
     let none : exit_code read ≡ 0 = ap exit_code h in
     let same : code ≡ exit_code status = omega (arith, e, none) in
@@ -93,20 +92,20 @@ ends_read P Reads inputs names before after status read code e (inr h) are count
     let same : code ≡ 3 = omega (arith, e, three, most) in
     (inputs, are, counted, (s.0, s.1, inr (part_of_all before after (sent s.0) s.2, same)))
 
-pub ends_failed : (P : List (List ℕ) → List Reply → Type 0) (Reads : Bor Words → List ℕ → Type 0) (inputs : List (List ℕ)) (names : List (Bor Words)) (before after : Option (List ℕ)) (code : ℕ) → code ≡ 3
-    → AreReadOf Reads names inputs → ((replies : List Reply) × P inputs replies × AppendsPart before after (sent replies)) ⊎ (P [] [] × Keeps before after) → EndsFiles P Reads names before after code
+pub ends_failed : (P : List (List ℕ) → List Sent → Type 0) (Reads : Bor Words → List ℕ → Type 0) (inputs : List (List ℕ)) (names : List (Bor Words)) (before after : Option (List ℕ)) (code : ℕ) → code ≡ 3
+    → AreReadOf Reads names inputs → ((replies : List Sent) × P inputs replies × AppendsPart before after (sent replies)) ⊎ (P [] [] × Keeps before after) → EndsFiles P Reads names before after code
 ends_failed P Reads inputs names before after code three are (inl h) = (inputs, are, (λ low. absurd (omega (arith, low, three))), (h.0, h.1, inr (h.2, three)))
 ends_failed P Reads inputs names before after code three are (inr h) =
     ([], none_read Reads names, (λ low. absurd (omega (arith, low, three))), ([], h.0, inr (part_none before after [] h.1, three)))
 
 -- what was sent, whichever replies they are
-pub sent_some : (P : List (List ℕ) → List Reply → Type 0) (Reads : Bor Words → List ℕ → Type 0) (names : List (Bor Words)) (before after : Option (List ℕ)) (code : ℕ) → EndsFiles P Reads names before after code
-    → (replies : List Reply) × IsSentOrCutOff replies before after code
+pub sent_some : (P : List (List ℕ) → List Sent → Type 0) (Reads : Bor Words → List ℕ → Type 0) (names : List (Bor Words)) (before after : Option (List ℕ)) (code : ℕ) → EndsFiles P Reads names before after code
+    → (replies : List Sent) × IsSentOrCutOff replies before after code
 sent_some P Reads names before after code h = (h.3.0, h.3.2)
 
 -- the same of replies of a wider kind, and of names that are the same
-pub sent_as : (P Q : List (List ℕ) → List Reply → Type 0) (Reads : Bor Words → List ℕ → Type 0) (names last : List (Bor Words)) (before after : Option (List ℕ)) (code : ℕ) → names ≡ last
-    → ((inputs : List (List ℕ)) (replies : List Reply) → P inputs replies → Q inputs replies) → EndsFiles P Reads names before after code → EndsFiles Q Reads last before after code
+pub sent_as : (P Q : List (List ℕ) → List Sent → Type 0) (Reads : Bor Words → List ℕ → Type 0) (names last : List (Bor Words)) (before after : Option (List ℕ)) (code : ℕ) → names ≡ last
+    → ((inputs : List (List ℕ)) (replies : List Sent) → P inputs replies → Q inputs replies) → EndsFiles P Reads names before after code → EndsFiles Q Reads last before after code
 sent_as P Q Reads names last before after code e wider h =
     (h.0, subst (λ (l : List (Bor Words)). AreReadOf Reads l h.0) e h.1, (λ low. h.2 low ∙ ap length e), (h.3.0, wider h.0 h.3.0 h.3.1, h.3.2))
 
@@ -126,7 +125,7 @@ none_answered meaning opened left same =
     subst (λ k. AreAnswers meaning opened k [] []) (sym same) (none_yet meaning opened)
 
 -- what is said of all that the inputs spell is said of them
-pub all_answered : {K Left : Type 0} (meaning : Meaning K Register Left StoreFault) (opened left : K) (inputs : List (List ℕ)) (replies : List Reply)
+pub all_answered : {K Left : Type 0} (meaning : Meaning K Register Left StoreFault) (opened left : K) (inputs : List (List ℕ)) (replies : List Sent)
     → (meaning.is_clean left → meaning.is_clean opened) → length replies ≡ length inputs → ((spelled : List Spelled) × AreSpelled (served inputs replies) spelled)
     → Promised meaning opened left (λ r. IsLegal r → IsReplayed (meaning.shows left) r inputs replies)
     → InTurn meaning opened left inputs replies → AreAnswers meaning opened left inputs replies
@@ -137,7 +136,7 @@ all_answered meaning opened left inputs replies began count spelled run turns = 
 }
 
 -- they are the replies, whatever is left
-pub whatever_left : (Shown : Register → Type 0) (r : Register) (inputs : List (List ℕ)) (replies : List Reply) → IsLegal r → AreRepliesLeaving Shown r inputs replies → AreRepliesTo r inputs replies
+pub whatever_left : (Shown : Register → Type 0) (r : Register) (inputs : List (List ℕ)) (replies : List Sent) → IsLegal r → AreRepliesLeaving Shown r inputs replies → AreRepliesTo r inputs replies
 whatever_left Shown r inputs replies legal are = record {
   count = are.count;
   spelled = are.spelled;
@@ -156,6 +155,14 @@ pub is_told_done : (bytes : List ℕ) (status : ℕ) → IsFull bytes status →
 unfolding status_line
 is_told_done bytes status h less = ap is_refusal h.line.1 ∙ lt-leb 52 (48 + status / 100) (omega (arith, less))
 
+pub ends_refused_by : (reply : Sent) → TellsStatus reply → status_sent reply ≢ 503 → 400 ≤ status_sent reply → reply_status reply ≡ 1
+ends_refused_by (Full status bytes) told other least = rw (is_told_refused bytes status told least) refl
+ends_refused_by Unavailable told other least = absurd (other refl)
+
+pub ends_done_by : (reply : Sent) → TellsStatus reply → status_sent reply ≢ 503 → status_sent reply < 400 → reply_status reply ≡ 0
+ends_done_by (Full status bytes) told other less = rw (is_told_done bytes status told less) refl
+ends_done_by Unavailable told other less = absurd (other refl)
+
 -- 0, 1 or 3
 abbrev pub IsEnd : ℕ → Type 0
 IsEnd n = (n ≡ 0) ⊎ ((n ≡ 1) ⊎ (n ≡ 3))
@@ -164,8 +171,8 @@ text_end : (refused : Bool) → IsEnd (report_status refused)
 text_end true = inr (inl refl)
 text_end false = inl refl
 
-pub reply_end : (reply : Reply) → IsEnd (reply_status reply)
-reply_end (Full bytes) = text_end (is_refusal bytes)
+pub reply_end : (reply : Sent) → IsEnd (reply_status reply)
+reply_end (Full status bytes) = text_end (is_refusal bytes)
 reply_end Unavailable = inr (inr refl)
 
 greater_end : (m n : ℕ) → IsEnd m → IsEnd n → IsEnd (max m n)
@@ -179,7 +186,7 @@ greater_end m n (inr (inr a)) (inl b) = rw (a, b) (inr (inr refl))
 greater_end m n (inr (inr a)) (inr (inl b)) = rw (a, b) (inr (inr refl))
 greater_end m n (inr (inr a)) (inr (inr b)) = rw (a, b) (inr (inr refl))
 
-pub replies_end : (replies : List Reply) → IsEnd (replies_status replies)
+pub replies_end : (replies : List Sent) → IsEnd (replies_status replies)
 replies_end [] = inl refl
 replies_end (reply ∷ replies) = greater_end (reply_status reply) (replies_status replies) (reply_end reply) (replies_end replies)
 

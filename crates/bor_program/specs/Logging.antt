@@ -13,8 +13,8 @@ use Rattle.bor_http.specs.declared.routes.route.Route.{Route}
 use Rattle.bor_http.specs.declared.routes.route.Route.TheVariants as asks
 use Rattle.bor_http.specs.Routes.Routes.{path_word, route_at}
 use Rattle.bor_wire.specs.Spelling.Parts.{path_spelled}
-use Rattle.bor_wire.specs.declared.outgoing.Outgoing.{Outgoing}
-use Rattle.bor_wire.specs.Exchanges.{NamesWhoAsks, bytes_out, status_out}
+use Rattle.bor_wire.specs.Exchanges.{NamesWhoAsks}
+use Rattle.bor_wire.specs.Sent.{Sent, bytes_sent, status_sent}
 use Rattle.bor_program.specs.declared.log.Asked.{Asked}
 use Rattle.bor_program.specs.declared.log.Asked.TheVariants as asked
 use Rattle.bor_program.specs.declared.log.Entry.{Entry}
@@ -88,12 +88,12 @@ asked_path_word asked.Nothing = untold
 -- A note of a request that had this reply: what it asks for, and the reply's status and bytes. The
 -- agent is the one that has the token which the request spells, in the register as it was, and none
 -- where no agent has it or no request is spelled; with 503 it may be none.
-pub record IsNoteOf (promised : (Register → Type 0) → Type 0) (request : List ℕ) (out : Outgoing)
+pub record IsNoteOf (promised : (Register → Type 0) → Type 0) (request : List ℕ) (out : Sent)
     (note : Note) : Type 0 where
   pub asked : note.asked ≡ asked_of request
-  pub status : note.status ≡ status_out out
-  pub bytes : note.bytes ≡ length (bytes_out out)
-  pub agent : promised (λ r. NamesWhoAsks r request (record { agent = note.agent; outgoing = out }))
+  pub status : note.status ≡ status_sent out
+  pub bytes : note.bytes ≡ length (bytes_sent out)
+  pub agent : promised (λ r. NamesWhoAsks r request (record { agent = note.agent; reply = out }))
 
 -- the notes are as they were, or with one more, of which P holds
 abbrev pub MayNote : (Note → Type 0) → List Note → List Note → Type 0

@@ -9,7 +9,7 @@ use Rattle.bor_register.specs.Register.{Register, empty_register}
 use Rattle.bor_register.specs.declared.fault.StoreFault.{StoreFault}
 use Rattle.bor_desk.specs.Texts.{answering}
 use Rattle.bor_desk.specs.declared.text.Text.{Text}
-use Rattle.bor_wire.specs.declared.replies.Reply.{Reply}
+use Rattle.bor_wire.specs.Sent.{Sent}
 use Rattle.bor_program.specs.Connections.Serving.{IsServed}
 use Rattle.clap.specs.Words.{Text as Words}
 use Rattle.bor_words.specs.declared.command.Command.{Command}
@@ -86,7 +86,7 @@ pub record ExchangesFrom {K Left : Type 0} (Reads : Bor Words → List ℕ → T
 pub record Exchanges {M K Left : Type 0} (Reads : Bor Words → List ℕ → Type 0)
     (meaning : Meaning K Register Left StoreFault) (files : Course M (Deed K))
     (asked : Exchanging) (streams : Streams) : Type 0 where
-  pub sent : (replies : List Reply)
+  pub sent : (replies : List Sent)
       × IsSentOrCutOff replies streams.output streams.printed streams.status
   pub answered : asked.db ≡ None
       → (files.ended ≡ files.begun)
@@ -274,5 +274,5 @@ Performs system files (command.Migrate asked) input rest streams =
 abbrev pub PrintsRefusal : Known → Known → Type 0
 PrintsRefusal output printed =
     ((text : Text) × IsTrue text.refused × Appends output printed text.bytes)
-    ⊎ ((replies : List Reply) × (replies_status replies ≡ 1)
+    ⊎ ((replies : List Sent) × (replies_status replies ≡ 1)
     × Appends output printed (sent replies))

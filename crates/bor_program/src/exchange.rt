@@ -197,9 +197,12 @@ fn status_of(replies: &[Reply]) -> Status
 fn reply_status(reply: &Reply) -> Status
     ensures { exit_code result ≡ reply_status reply.now }
 {
-    match reply {
-        Reply::Full(full) if full.status() >= 400 => Status::Refused,
-        Reply::Full(_) => Status::Done,
-        Reply::Unavailable => Status::Failed,
+    let status = reply.status();
+    if status == 503 {
+        Status::Failed
+    } else if status >= 400 {
+        Status::Refused
+    } else {
+        Status::Done
     }
 }

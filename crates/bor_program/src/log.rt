@@ -10,7 +10,7 @@
 ghost use Rattle.std.specs.Prelude.{◌≡◌, ◌↔◌, ◌+◌, ◌/◌, ◌%◌, ◌≤◌, pos, IfOk, IfSome, IsSome, Some, length};
 ghost use Rattle.bor_http.specs.Routes.Routes.{path_word, route_at as route_in};
 ghost use Rattle.bor_wire.specs.Spelling.Parts.{path_spelled};
-ghost use Rattle.bor_wire.specs.Exchanges.{bytes_out, status_out};
+ghost use Rattle.bor_wire.specs.Sent.{bytes_sent, status_sent};
 ghost use Rattle.bor_program.specs.Logging.{agent_shown, asked_at, asked_of, asked_path_word, asked_text, clock_text, entry_line, method_word, moment_text, numbers_text, route_method, route_path};
 ghost use Rattle.bor_program.specs.Streams.{AppendsPart};
 
@@ -19,7 +19,7 @@ use crate::split::split_at;
 use bor_http::incoming::Path;
 use bor_http::routes::{Paths, Route, route_at};
 use bor_terms::{AgentName, Day};
-use bor_wire::Outgoing;
+use bor_wire::Reply;
 use itoa::Buffer;
 use std::alloc::{AllocError, Global};
 use std::io::Write;
@@ -66,10 +66,10 @@ pub struct Note {
 impl Note {
     /// The note of the request in these bytes, which had this reply and this agent's token. No
     /// memory is taken.
-    pub fn of(paths: &Paths, request: &[u8], agent: Option<AgentName>, reply: &Outgoing) -> Note
+    pub fn of(paths: &Paths, request: &[u8], agent: Option<AgentName>, reply: &Reply) -> Note
         ensures asked { result.asked ≡ asked_of request.now }
-        ensures status { result.status ≡ status_out reply.now }
-        ensures bytes { result.bytes ≡ length (bytes_out reply.now) }
+        ensures status { result.status ≡ status_sent reply.now }
+        ensures bytes { result.bytes ≡ length (bytes_sent reply.now) }
         ensures agent { result.agent ≡ agent }
     {
         Note {

@@ -8,7 +8,7 @@ use crate::failing_keep::FailingKeep;
 use crate::streams::Drip;
 use bor_desk::operations::{Keep, ListKeep, StoreFault};
 use bor_desk::{DeskReply, report_text};
-use bor_wire::{Outcome, Reply, UNAVAILABLE, render, replay};
+use bor_wire::{Outcome, UNAVAILABLE, render, replay};
 use std::alloc::Global;
 use std::process::Abort;
 
@@ -86,7 +86,10 @@ fn is_replied_unavailable(
     holds(rt, ask.0, is_told);
     failing.left = calls;
     let replies = replay(alloc, failing, &[input]).expect(rt, "memory");
-    let is_told = matches!(replies.as_slice(), [Reply::Unavailable]);
+    let is_told = match replies.as_slice() {
+        [reply] => reply.status() == 503 && reply.bytes() == UNAVAILABLE,
+        _ => false,
+    };
     holds(rt, ask.0, is_told && failing.faults() == 3);
 }
 

@@ -34,7 +34,7 @@ use bor_terms::{AgentName, Day, Ident, Listed, LodgeKey, Span, Token};
 use bor_wire::rendering::{
     RESERVED, desk_status, is_long, refusal_status, render_refusal, render_short,
 };
-use bor_wire::{Outgoing, Reply, replay};
+use bor_wire::{Reply, UNAVAILABLE, replay};
 use bor_words::Source;
 use std::alloc::Global;
 use std::fs;
@@ -492,7 +492,7 @@ fn are_routes_found(paths: &Paths) -> bool {
 
 fn are_notes_made(paths: &Paths, input: &[u8]) -> bool {
     let line = b"GET /day HTTP/1.1\r\n";
-    let note = Note::of(paths, line, None, &Outgoing::Unavailable);
+    let note = Note::of(paths, line, None, &Reply::unavailable());
     asked_by(paths, input) == Asked::Route(Route::File)
         && note.asked == Asked::Path(Path::Day)
         && note.status == 503
@@ -547,22 +547,16 @@ fn is_refusal_told(mut out: Vec<u8>) -> bool {
 
 // The bytes that are sent are those that are handed on.
 fn is_sent(mut out: Vec<u8>) -> bool {
-    let is_written = send(&mut Counted::new(&mut out), MOVED);
-    let outgoing = Outgoing::Full(200, out);
-    is_written && outgoing.status() == 200 && outgoing.bytes() == MOVED
+    send(&mut Counted::new(&mut out), MOVED) && out.as_slice() == MOVED
 }
 
-// A reply of a run tells its status and its bytes.
-fn is_reply_of_run_told(replies: &[Reply]) -> bool {
-    match replies {
-        [Reply::Full(full)] => full.status() == 401 && full.as_slice() == NO_TOKEN,
-        _ => false,
-    }
-}
-
+// A reply tells its status and its bytes.
 fn are_replies_sent(replies: &[Reply]) -> bool {
+    let none = Reply::unavailable();
     let mut replies = replies.iter();
     replies.all(|reply| reply.status() == 401 && reply.bytes() == NO_TOKEN)
+        && none.status() == 503
+        && none.bytes() == UNAVAILABLE
 }
 
 #[test]
@@ -580,7 +574,6 @@ fn replies(rt: HostRuntime) {
         is_reply_told(short, &reply),
         is_refusal_told(refused),
         is_sent(sent),
-        is_reply_of_run_told(&run),
         are_replies_sent(&run),
     ];
     end(&rt, marks, &told);

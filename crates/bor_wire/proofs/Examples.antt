@@ -7,8 +7,7 @@ use Rattle.bor_http.specs.declared.incoming.fault.Refusal.TheVariants.{NoPath}
 use Rattle.bor_wire.specs.Spelling.Spell.{Spelled}
 use Rattle.bor_wire.specs.Rendering.Replies.{refused, bytes_of}
 use Rattle.bor_wire.specs.declared.outcome.Outcome.TheVariants.{Replied, ReadFailed, WriteFailed}
-use Rattle.bor_wire.specs.declared.replies.Reply.{Reply}
-use Rattle.bor_wire.specs.declared.replies.Reply.TheVariants.{Full, Unavailable}
+use Rattle.bor_wire.specs.Sent.{Sent, Full, Unavailable}
 use Rattle.bor_wire.specs.Runs.{AreReplies, register_left, served, full}
 use Rattle.bor_wire.specs.Histories.{asked_in, replies_to_requests}
 use Rattle.bor_wire.specs.Exchanges.{IsExchanged, read_faults, write_faults}
@@ -26,8 +25,8 @@ third : List ℕ
 third = codes "3"
 
 -- the second of three inputs is not answered
-replies : List Reply
-replies = Full (codes "a") ∷ Unavailable ∷ Full (codes "c") ∷ []
+replies : List Sent
+replies = Full 200 (codes "a") ∷ Unavailable ∷ Full 201 (codes "c") ∷ []
 
 answered : served (first ∷ second ∷ third ∷ []) replies ≡ first ∷ third ∷ []
 unfolding replies

@@ -1,9 +1,8 @@
 -- The effects of an exchange, from the reply that went out.
 use Rattle.bor_register.specs.declared.fault.StoreFault.{StoreFault}
-use Rattle.std.proofs.Common.{◌≡◌, ◌≢◌, ◌≤◌, ℕ, List, [], ◌∷◌, Option, Some, None, Err, take, sym, ap, subst, ◌∙◌, refl}
+use Rattle.std.proofs.Common.{◌≡◌, ◌≢◌, ◌≤◌, ℕ, List, [], ◌∷◌, Option, Some, None, Err, take, inl, inr, sym, ap, subst, ◌∙◌, refl}
 use Rattle.std.specs.Io.KnownBytes.{Appends, Keeps}
-use Rattle.bor_records.specs.Promises.{Meaning}
-use Rattle.bor_records.proofs.KeptLaws.{leaves_so}
+use Rattle.bor_records.specs.Promises.{Leaves, Meaning}
 use Rattle.bor_register.specs.Register.{Register}
 use Rattle.bor_http.specs.declared.incoming.fault.Refusal.{Refusal}
 use Rattle.bor_wire.specs.Spelling.Spell.{Spelled}
@@ -11,15 +10,14 @@ use Rattle.bor_wire.specs.Rendering.Replies.{refused, status_of, bytes_of}
 use Rattle.bor_wire.specs.declared.rendering.reply.TheConstants.{UNAVAILABLE}
 use Rattle.bor_wire.specs.declared.outcome.Outcome.{Outcome}
 use Rattle.bor_wire.specs.declared.outcome.Outcome.TheVariants.{Replied, ReadFailed, WriteFailed}
-use Rattle.bor_wire.specs.declared.outgoing.Outgoing.{Outgoing}
-use Rattle.bor_wire.specs.declared.outgoing.Outgoing.TheVariants as outgoing
+use Rattle.bor_wire.specs.Sent.{Sent, Full, Unavailable, IfFull, TellsStatus, bytes_sent, status_sent}
 use Rattle.bor_wire.specs.Inputs.{after}
 use Rattle.bor_wire.specs.Answering.{AnswersOne, GoesOutFor, Responds}
-use Rattle.bor_wire.specs.Exchanges.{GoesOut, HasStatus, IfAsked, IfFull, IfRefused, IfRefusing, IsExchanged, IsRefusal, IsReplied, IsSpelled, IsWritten, IsWrittenBy, OnRefusal, ShowsAfter, TellsRefusal, TellsUnavailable, UnlessUnavailable, bytes_out, status_out, status_told}
+use Rattle.bor_wire.specs.Exchanges.{GoesOut, IfAsked, IfRefused, IfRefusing, IsExchanged, IsRefusal, IsReplied, IsSpelled, IsWritten, IsWrittenBy, OnRefusal, ShowsAfter, TellsRefusal, TellsUnavailable, UnlessUnavailable, status_told}
 use Rattle.bor_wire.proofs.OnSpelling.Messages.{one_spelling}
 use Rattle.bor_wire.proofs.HistoryLaws.{alone}
 use Rattle.bor_wire.proofs.ReportLaws.{exact}
-use Rattle.bor_wire.proofs.Outgoings.{asked_all, asked_so, on_any, on_spelled_so, on_this, same_leaves}
+use Rattle.bor_wire.proofs.Responses.{asked_all, asked_so, asks_nothing, on_any, on_spelled_so, on_this, same_leaves}
 
 pub some_status : (a b : ℕ) → Some a ≡ Some b → a ≡ b
 some_status a b e = cc
@@ -52,7 +50,7 @@ pub on_refusals : (known : Option (List ℕ)) (P : Refusal → Type 0) → ((why
 on_refusals None P h = tt
 on_refusals (Some input) P h = λ why spells. h why
 
-pub unasked : {K W : Type 0} (meaning : Meaning K Register W StoreFault) (keep : K) (known : Option (List ℕ)) → Responds meaning keep keep known outgoing.Unavailable
+pub unasked : {K W : Type 0} (meaning : Meaning K Register W StoreFault) (keep : K) (known : Option (List ℕ)) → Responds meaning keep keep known Unavailable
 unasked meaning keep known = record {
   leaves = same_leaves meaning keep (ShowsAfter meaning.left_shows known);
   exchanged = λ r is clean ordered. unavailable (meaning.shows keep) r known is;
@@ -63,9 +61,34 @@ unasked meaning keep known = record {
   spells = λ other. absurd (other refl);
 }
 
-effects : (out : Outgoing) (shown : Register → Type 0) (r : Register) (known : Option (List ℕ)) (s : Spelled) → IsSpelled known s → HasStatus out → GoesOut out shown r s
-    → IsExchanged (Replied (status_out out)) shown r known (Some []) (Some (bytes_out out))
-effects (outgoing.Full status bytes) shown r known s spells sure sent = record {
+pub read_failed : {K W : Type 0} (meaning : Meaning K Register W StoreFault) (keep : K) (known held holds : Option (List ℕ)) → Keeps held holds
+    → AnswersOne meaning keep keep ReadFailed known held holds
+read_failed meaning keep known held holds keeps = record {
+  leaves = same_leaves meaning keep (ShowsAfter meaning.left_shows known);
+  exchanged = λ r is clean ordered. unread (meaning.shows keep) r known held holds is keeps;
+  refused_kept = λ r is clean. is;
+  up = on_any known _ (λ spelled. asks_nothing spelled);
+  unavailable = keeps;
+  refused = on_refusals known _ (λ why. keeps);
+  spells = tt;
+}
+
+-- ---- what goes out for what an input spells goes out for the input
+
+leaves_so : {K W : Type 0} (meaning : Meaning K Register W StoreFault) (old new : K) (known : Option (List ℕ)) (s : Spelled) → IsSpelled known s
+    → Leaves meaning old new (λ r left. meaning.left_shows left (after r s)) → Leaves meaning old new (ShowsAfter meaning.left_shows known)
+leaves_so meaning old new known s spells h = record {
+  began = h.began;
+  sound = h.sound;
+  stops = λ sound left may. elim (h.stops sound left may) [
+    | inl was ↦ inl was
+    | inr made ↦ inr (made.0, λ r is. (s, spells, made.1 r is))
+  ];
+}
+
+effects : (out : Sent) (shown : Register → Type 0) (r : Register) (known : Option (List ℕ)) (s : Spelled) → IsSpelled known s → TellsStatus out → GoesOut out shown r s
+    → IsExchanged (Replied (status_sent out)) shown r known (Some []) (Some (bytes_sent out))
+effects (Full status bytes) shown r known s spells sure sent = record {
   unread = λ none. absurd (no_status status none);
   unavailable = λ is. absurd (sure.served (some_status status 503 is));
   replied = λ other is _. record {
@@ -74,47 +97,47 @@ effects (outgoing.Full status bytes) shown r known s spells sure sent = record {
     said = sent.0;
     tells = sent.1;
     status_is = sym (some_status status other is) ∙ sent.3;
-    bytes = bytes.items;
+    bytes = bytes;
     bytes_are = sent.2;
     written = refl;
     left = sent.4;
     exact = exact r s sent.0 sent.1;
-    alone = λ legal name. alone name r (s ∷ []) (bytes.items ∷ []) legal ((sent.0, sent.1, sent.2), tt);
+    alone = λ legal name. alone name r (s ∷ []) (bytes ∷ []) legal ((sent.0, sent.1, sent.2), tt);
   };
 }
-effects outgoing.Unavailable shown r known s spells sure is = unavailable shown r known is
+effects Unavailable shown r known s spells sure is = unavailable shown r known is
 
-refusing : (out : Outgoing) (P : Type 0) → IfRefusing out P → IfRefused (Replied (status_out out)) P
-refusing (outgoing.Full status bytes) P h = h
-refusing outgoing.Unavailable P h = λ least. h
+refusing : (out : Sent) (P : Type 0) → IfRefusing out P → IfRefused (Replied (status_sent out)) P
+refusing (Full status bytes) P h = h
+refusing Unavailable P h = λ least. h
 
-full_answers : (out : Outgoing) (P : Type 0) → IfFull out P → UnlessUnavailable (Replied (status_out out)) P
-full_answers (outgoing.Full status bytes) P h = λ other. h
-full_answers outgoing.Unavailable P h = λ other. absurd (other refl)
+full_answers : (out : Sent) (P : Type 0) → IfFull out P → UnlessUnavailable (Replied (status_sent out)) P
+full_answers (Full status bytes) P h = λ other. h
+full_answers Unavailable P h = λ other. absurd (other refl)
 
-tells_unavailable : (out : Outgoing) → HasStatus out → TellsUnavailable (Replied (status_out out)) (Some []) (Some (bytes_out out))
-tells_unavailable (outgoing.Full status bytes) sure = λ told. absurd (sure.served told)
-tells_unavailable outgoing.Unavailable sure = λ told. refl
+tells_unavailable : (out : Sent) → TellsStatus out → TellsUnavailable (Replied (status_sent out)) (Some []) (Some (bytes_sent out))
+tells_unavailable (Full status bytes) sure = λ told. absurd (sure.served told)
+tells_unavailable Unavailable sure = λ told. refl
 
-tells_refusal : (out : Outgoing) (why : Refusal) → IsRefusal out why → TellsRefusal (Replied (status_out out)) why (Some []) (Some (bytes_out out))
-tells_refusal (outgoing.Full status bytes) why is = λ other. is
-tells_refusal outgoing.Unavailable why is = λ other. absurd (other refl)
+tells_refusal : (out : Sent) (why : Refusal) → IsRefusal out why → TellsRefusal (Replied (status_sent out)) why (Some []) (Some (bytes_sent out))
+tells_refusal (Full status bytes) why is = λ other. is
+tells_refusal Unavailable why is = λ other. absurd (other refl)
 
 on_refusal : (known : Option (List ℕ)) (s : Spelled) (P : Refusal → Type 0) → IsSpelled known s → ((why : Refusal) → s ≡ Err why → P why) → OnRefusal known P
 on_refusal None s P is h = tt
 on_refusal (Some input) s P is h = λ why spells. h why (one_spelling input s (Err why) is spells)
 
-pub goes_out : {K W : Type 0} (meaning : Meaning K Register W StoreFault) (old new : K) (named : Option (List ℕ)) (out : Outgoing) (known : Option (List ℕ)) (s : Spelled) → IsSpelled known s
+pub goes_out : {K W : Type 0} (meaning : Meaning K Register W StoreFault) (old new : K) (named : Option (List ℕ)) (out : Sent) (known : Option (List ℕ)) (s : Spelled) → IsSpelled known s
     → GoesOutFor meaning old new named out s → Responds meaning old new known out
 goes_out meaning old new named out known s spells h = record {
-  leaves = leaves_so meaning old new (λ r left. meaning.left_shows left (after r s)) (ShowsAfter meaning.left_shows known) (λ clean r is left made. (s, spells, made)) h.leaves;
+  leaves = leaves_so meaning old new known s spells h.leaves;
   exchanged = λ r is clean ordered. effects out (meaning.shows new) r known s spells h.status (h.reply r is clean ordered);
   refused_kept = λ r is clean. refusing out (meaning.shows new r) (h.kept r is clean);
   up =
-      on_this known s (λ t. IfAsked t (UnlessUnavailable (Replied (status_out out)) (meaning.is_sound new → meaning.is_clean new))) spells
+      on_this known s (λ t. IfAsked t (UnlessUnavailable (Replied (status_sent out)) (meaning.is_sound new → meaning.is_clean new))) spells
       (asked_so _ _ s (full_answers out (meaning.is_sound new → meaning.is_clean new)) h.up);
   unavailable = tells_unavailable out h.status;
-  refused = on_refusal known s (λ why. TellsRefusal (Replied (status_out out)) why (Some []) (Some (bytes_out out))) spells (λ why e. tells_refusal out why (h.refused why e));
+  refused = on_refusal known s (λ why. TellsRefusal (Replied (status_sent out)) why (Some []) (Some (bytes_sent out))) spells (λ why e. tells_refusal out why (h.refused why e));
   spells = λ other. (s, spells);
 }
 

@@ -1,5 +1,5 @@
 pub mod OnSpelling
-pub mod Outgoings
+pub mod Responses
 pub mod ReportLaws
 pub mod Exchanged
 pub mod RunLaws

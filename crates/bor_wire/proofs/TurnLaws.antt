@@ -10,19 +10,19 @@ use Rattle.bor_desk.specs.Operations.Legality.{IsLegal}
 use Rattle.bor_wire.specs.Spelling.Spell.{Spelled, Spells}
 use Rattle.bor_wire.specs.declared.outcome.Outcome.{Outcome}
 use Rattle.bor_wire.specs.declared.outcome.Outcome.TheVariants.{Replied, ReadFailed, WriteFailed}
-use Rattle.bor_wire.specs.declared.replies.Reply.{Reply}
-use Rattle.bor_wire.specs.declared.replies.Reply.TheVariants.{Full, Unavailable}
+use Rattle.bor_wire.specs.Sent.{Sent, Full, Unavailable, IfFull, TellsStatus, bytes_sent, status_sent}
+use Rattle.bor_wire.specs.Answering.{Responds}
 use Rattle.bor_wire.specs.Exchanges.{UnlessUnavailable, IfAsked, IsSpelled, IsWrittenBy, OnSpelled}
 use Rattle.bor_wire.specs.Replays.{IsReplayed, IsRunOver}
 use Rattle.bor_wire.specs.Runs.{AreSpelled, full, served}
 use Rattle.bor_wire.specs.Sequences.{AreExchanged, AreSpelledBy, AreWritten, Exchanged, IsNext, IsRun, answered, is_answered, keep_left}
-use Rattle.bor_wire.specs.Turns.{AnswersAreRuns, AllAnswerClean, AreTurns, FrontsAreRuns, HasStatusOf, IfWhole, InTurn, AnswersClean, IsRequestAnswered, IsTurn, TakesTurn, sent_as}
+use Rattle.bor_wire.specs.Turns.{AnswersAreRuns, AllAnswerClean, AreTurns, FrontsAreRuns, InTurn, AnswersClean, IsRequestAnswered, IsTurn}
 use Rattle.bor_wire.proofs.RunLaws.{spelled_once}
 use Rattle.bor_wire.proofs.SequenceLaws.{a_run, began, dropped, kept}
 
 -- ---- one more exchange
 
-turns_more : {K : Type 0} (inputs : List (List ℕ)) (replies : List Reply) (es : List (Exchanged K)) (input : List ℕ) (reply : Reply) (e : Exchanged K)
+turns_more : {K : Type 0} (inputs : List (List ℕ)) (replies : List Sent) (es : List (Exchanged K)) (input : List ℕ) (reply : Sent) (e : Exchanged K)
     → AreTurns inputs replies es → IsTurn input reply e → AreTurns (inputs ++ input ∷ []) (replies ++ reply ∷ []) (es ++ e ∷ [])
 turns_more [] [] [] input reply e h one = (one, tt)
 turns_more [] [] (x ∷ es) input reply e h one = elim h [ ]
@@ -47,37 +47,36 @@ open_more meaning [] e h one = (one, tt)
 open_more meaning (x ∷ es) e h one = (h.0, open_more meaning es e h.1 one)
 
 -- a whole reply has another status than 503
-whole_so : (P : Type 0) (reply : Reply) (status : ℕ) → HasStatusOf reply status → (status ≢ 503 → P) → IfWhole reply P
-whole_so P (Full bytes) status is h = h is.served
-whole_so P Unavailable status is h = tt
+full_so : (P : Type 0) (reply : Sent) → TellsStatus reply → (status_sent reply ≢ 503 → P) → IfFull reply P
+full_so P (Full status bytes) told h = h told.served
+full_so P Unavailable told h = tt
 
-pub in_turn_more : {K W : Type 0} (meaning : Meaning K Register W StoreFault) (old mid new : K) (inputs : List (List ℕ)) (replies : List Reply) (input : List ℕ) (reply : Reply)
-    → InTurn meaning old mid inputs replies → TakesTurn meaning mid new input reply → InTurn meaning old new (inputs ++ input ∷ []) (replies ++ reply ∷ [])
-in_turn_more {K} meaning old mid new inputs replies input reply h one =
-    let e : Exchanged K = record { known = Some input; outcome = Replied one.status; held = Some []; holds = Some (sent_as reply); keep = new } in
+pub in_turn_more : {K W : Type 0} (meaning : Meaning K Register W StoreFault) (old mid new : K) (inputs : List (List ℕ)) (replies : List Sent) (input : List ℕ) (reply : Sent)
+    → InTurn meaning old mid inputs replies → TellsStatus reply → Responds meaning mid new (Some input) reply → InTurn meaning old new (inputs ++ input ∷ []) (replies ++ reply ∷ [])
+in_turn_more {K} meaning old mid new inputs replies input reply h told responds =
+    let e : Exchanged K = record { known = Some input; outcome = Replied (status_sent reply); held = Some []; holds = Some (bytes_sent reply); keep = new } in
     record {
       exchanges = h.exchanges ++ e ∷ [];
       turns =
           turns_more inputs replies h.exchanges input reply e h.turns (record {
-            status = one.status;
-            status_is = one.status_is;
+            told = told;
             outcome = refl;
             known = refl;
             held = refl;
             holds = refl;
-            spells = whole_so ((spelled : Spelled) × Spells input spelled) reply one.status one.status_is one.answers.spells;
+            spells = full_so ((spelled : Spelled) × Spells input spelled) reply told responds.spells;
           });
       each =
           exchanged_more meaning old h.exchanges e h.each
-          (subst (λ k. IsNext meaning k e) (sym h.left) (record { leaves = one.answers.leaves; exchanged = λ r is clean legal. one.answers.exchanged r is clean legal.names }));
-      answer_clean = open_more meaning h.exchanges e h.answer_clean one.answers.up;
+          (subst (λ k. IsNext meaning k e) (sym h.left) (record { leaves = responds.leaves; exchanged = λ r is clean legal. responds.exchanged r is clean legal.names }));
+      answer_clean = open_more meaning h.exchanges e h.answer_clean responds.up;
       left = left_more old h.exchanges e;
     }
 
 -- ---- the run that they are
 
 -- what the inputs spell that were answered
-pub turns_spelled : {K : Type 0} (inputs : List (List ℕ)) (replies : List Reply) (es : List (Exchanged K)) → AreTurns inputs replies es → (spelled : List Spelled) × AreSpelled (served inputs replies) spelled
+pub turns_spelled : {K : Type 0} (inputs : List (List ℕ)) (replies : List Sent) (es : List (Exchanged K)) → AreTurns inputs replies es → (spelled : List Spelled) × AreSpelled (served inputs replies) spelled
 turns_spelled [] [] [] h = ([], tt)
 turns_spelled [] [] (x ∷ es) h = elim h [ ]
 turns_spelled [] (b ∷ replies) [] h = elim h [ ]
@@ -85,38 +84,38 @@ turns_spelled [] (b ∷ replies) (x ∷ es) h = elim h [ ]
 turns_spelled (a ∷ inputs) [] [] h = elim h [ ]
 turns_spelled (a ∷ inputs) [] (x ∷ es) h = elim h [ ]
 turns_spelled (a ∷ inputs) (b ∷ replies) [] h = elim h [ ]
-turns_spelled (a ∷ inputs) (Full bytes ∷ replies) (x ∷ es) h = let rest = turns_spelled inputs replies es h.1 in (h.0.spells.0 ∷ rest.0, (h.0.spells.1, rest.1))
+turns_spelled (a ∷ inputs) (Full status bytes ∷ replies) (x ∷ es) h = let rest = turns_spelled inputs replies es h.1 in (h.0.spells.0 ∷ rest.0, (h.0.spells.1, rest.1))
 turns_spelled (a ∷ inputs) (Unavailable ∷ replies) (x ∷ es) h = turns_spelled inputs replies es h.1
 
 tested : (b : Bool) (status : ℕ) → (status == 503) ≡ b → status ≢ 503 → not b ≡ true
 tested true status is other = absurd (other (eqb-true status 503 is))
 tested false status is other = refl
 
-is_whole : {K : Type 0} (input bytes : List ℕ) (e : Exchanged K) → IsTurn input (Full bytes) e → is_answered e.outcome ≡ true
-is_whole input bytes e turn = rw turn.outcome (tested (turn.status == 503) turn.status refl turn.status_is.served)
+is_whole : {K : Type 0} (input bytes : List ℕ) (status : ℕ) (e : Exchanged K) → IsTurn input (Full status bytes) e → is_answered e.outcome ≡ true
+is_whole input bytes status e turn = rw turn.outcome (tested (status == 503) status refl turn.told.served)
 
 is_none : {K : Type 0} (input : List ℕ) (e : Exchanged K) → IsTurn input Unavailable e → is_answered e.outcome ≡ false
-is_none input e turn = rw (turn.outcome, turn.status_is) refl
+is_none input e turn = rw turn.outcome refl
 
 -- the exchanges that were answered have what the inputs spell, and the bytes that were sent
-record AreServed {K : Type 0} (inputs : List (List ℕ)) (replies : List Reply) (es : List (Exchanged K)) (spelled : List Spelled) (sent : List (List ℕ)) : Type 0 where
+record AreServed {K : Type 0} (inputs : List (List ℕ)) (replies : List Sent) (es : List (Exchanged K)) (spelled : List Spelled) (sent : List (List ℕ)) : Type 0 where
   spells : AreSpelled (served inputs replies) spelled
   same : sent ≡ full replies
 
-one_served : {K : Type 0} (input bytes : List ℕ) (e : Exchanged K) (inputs : List (List ℕ)) (replies : List Reply) (es : List (Exchanged K)) (spelled : List Spelled) (sent : List (List ℕ)) → IsTurn input (Full bytes) e
+one_served : {K : Type 0} (input bytes : List ℕ) (status : ℕ) (e : Exchanged K) (inputs : List (List ℕ)) (replies : List Sent) (es : List (Exchanged K)) (spelled : List Spelled) (sent : List (List ℕ)) → IsTurn input (Full status bytes) e
     → ((ss : List Spelled) (bs : List (List ℕ)) → AreSpelledBy (answered es) ss → AreWritten (answered es) bs → AreServed inputs replies es ss bs)
-    → AreSpelledBy (e ∷ answered es) spelled → AreWritten (e ∷ answered es) sent → AreServed (input ∷ inputs) (Full bytes ∷ replies) (e ∷ es) spelled sent
-one_served input bytes e inputs replies es [] sent turn rest h w = elim h [ ]
-one_served input bytes e inputs replies es (s ∷ ss) [] turn rest h w = elim w [ ]
-one_served input bytes e inputs replies es (s ∷ ss) (b ∷ bs) turn rest h w =
+    → AreSpelledBy (e ∷ answered es) spelled → AreWritten (e ∷ answered es) sent → AreServed (input ∷ inputs) (Full status bytes ∷ replies) (e ∷ es) spelled sent
+one_served input bytes status e inputs replies es [] sent turn rest h w = elim h [ ]
+one_served input bytes status e inputs replies es (s ∷ ss) [] turn rest h w = elim w [ ]
+one_served input bytes status e inputs replies es (s ∷ ss) (b ∷ bs) turn rest h w =
     let more = rest ss bs h.1 w.1 in
-    let by : IsWrittenBy (Replied turn.status) (Some []) (Some bytes) b = rw turn.outcome at (rw turn.held at (rw turn.holds at w.0)) in
+    let by : IsWrittenBy (Replied status) (Some []) (Some bytes) b = rw turn.outcome at (rw turn.held at (rw turn.holds at w.0)) in
     record {
       spells = (subst (λ known. IsSpelled known s) turn.known h.0, more.spells);
       same = ap (λ x. x ∷ bs) (sym by) ∙ ap (λ xs. bytes ∷ xs) more.same;
     }
 
-are_served : {K : Type 0} (inputs : List (List ℕ)) (replies : List Reply) (es : List (Exchanged K)) → AreTurns inputs replies es → (spelled : List Spelled) (sent : List (List ℕ))
+are_served : {K : Type 0} (inputs : List (List ℕ)) (replies : List Sent) (es : List (Exchanged K)) → AreTurns inputs replies es → (spelled : List Spelled) (sent : List (List ℕ))
     → AreSpelledBy (answered es) spelled → AreWritten (answered es) sent → AreServed inputs replies es spelled sent
 are_served [] [] [] t [] [] h w = record { spells = tt; same = refl }
 are_served [] [] [] t [] (b ∷ sent) h w = elim w [ ]
@@ -127,15 +126,15 @@ are_served [] (b ∷ replies) (x ∷ es) t spelled sent h w = elim t [ ]
 are_served (a ∷ inputs) [] [] t spelled sent h w = elim t [ ]
 are_served (a ∷ inputs) [] (x ∷ es) t spelled sent h w = elim t [ ]
 are_served (a ∷ inputs) (b ∷ replies) [] t spelled sent h w = elim t [ ]
-are_served (a ∷ inputs) (Full bytes ∷ replies) (x ∷ es) t spelled sent h w =
-    let first : answered (x ∷ es) ≡ x ∷ answered es = kept (is_answered x.outcome) x (answered es) (is_whole a bytes x t.0) in
-    one_served a bytes x inputs replies es spelled sent t.0 (are_served inputs replies es t.1) (subst (λ xs. AreSpelledBy xs spelled) first h) (subst (λ xs. AreWritten xs sent) first w)
+are_served (a ∷ inputs) (Full status bytes ∷ replies) (x ∷ es) t spelled sent h w =
+    let first : answered (x ∷ es) ≡ x ∷ answered es = kept (is_answered x.outcome) x (answered es) (is_whole a bytes status x t.0) in
+    one_served a bytes status x inputs replies es spelled sent t.0 (are_served inputs replies es t.1) (subst (λ xs. AreSpelledBy xs spelled) first h) (subst (λ xs. AreWritten xs sent) first w)
 are_served (a ∷ inputs) (Unavailable ∷ replies) (x ∷ es) t spelled sent h w =
     let none : answered (x ∷ es) ≡ answered es = dropped (is_answered x.outcome) x (answered es) (is_none a x t.0) in
     let more = are_served inputs replies es t.1 spelled sent (subst (λ xs. AreSpelledBy xs spelled) none h) (subst (λ xs. AreWritten xs sent) none w) in
     record { spells = more.spells; same = more.same }
 
-pub replayed : {K W : Type 0} (meaning : Meaning K Register W StoreFault) (old new : K) (inputs : List (List ℕ)) (replies : List Reply) → InTurn meaning old new inputs replies
+pub replayed : {K W : Type 0} (meaning : Meaning K Register W StoreFault) (old new : K) (inputs : List (List ℕ)) (replies : List Sent) → InTurn meaning old new inputs replies
     → Promised meaning old new (λ r. IsLegal r → IsReplayed (meaning.shows new) r inputs replies)
 replayed meaning old new inputs replies h = λ r is clean legal spelled spells.
     let run : IsRun (meaning.shows new) r h.exchanges =
@@ -144,7 +143,7 @@ replayed meaning old new inputs replies h = λ r is clean legal spelled spells.
     subst (λ ss. IsRunOver (meaning.shows new) r ss (full replies)) (spelled_once (served inputs replies) run.spelled spelled are.spells spells)
     (subst (IsRunOver (meaning.shows new) r run.spelled) are.same run.over)
 
-pub in_turn_began : {K W : Type 0} (meaning : Meaning K Register W StoreFault) (old new : K) (inputs : List (List ℕ)) (replies : List Reply) → InTurn meaning old new inputs replies
+pub in_turn_began : {K W : Type 0} (meaning : Meaning K Register W StoreFault) (old new : K) (inputs : List (List ℕ)) (replies : List Sent) → InTurn meaning old new inputs replies
     → meaning.is_clean new → meaning.is_clean old
 in_turn_began meaning old new inputs replies h clean = began meaning old h.exchanges h.each (subst meaning.is_clean (sym h.left) clean)
 

@@ -7,12 +7,13 @@ use Rattle.bor_http.specs.declared.incoming.fault.Refusal.{Refusal}
 use Rattle.bor_wire.specs.Spelling.Spell.{Spelled}
 use Rattle.bor_wire.specs.declared.outcome.Outcome.{Outcome}
 use Rattle.bor_wire.specs.declared.outcome.Outcome.TheVariants.{Replied}
-use Rattle.bor_wire.specs.declared.outgoing.Outgoing.{Outgoing}
+use Rattle.bor_wire.specs.declared.response.Response.{Response}
 use Rattle.bor_wire.specs.Inputs.{after}
-use Rattle.bor_wire.specs.Exchanges.{GoesOut, HasStatus, IfAsked, IfFull, IfRefused, IfRefusing}
-use Rattle.bor_wire.specs.Exchanges.{IsExchanged, IsFor, IsRefusal, IsSpelled, OnRefusal, OnSpelled}
-use Rattle.bor_wire.specs.Exchanges.{ShowsAfter, TellsRefusal, TellsUnavailable, UnlessUnavailable}
-use Rattle.bor_wire.specs.Exchanges.{agent_spelled, bytes_out, status_out}
+use Rattle.bor_wire.specs.Sent.{Sent, IfFull, TellsStatus, bytes_sent, status_sent}
+use Rattle.bor_wire.specs.Exchanges.{GoesOut, IfAsked, IfRefused, IfRefusing, IsExchanged, IsFor}
+use Rattle.bor_wire.specs.Exchanges.{IsRefusal, IsSpelled, OnRefusal, OnSpelled, ShowsAfter}
+use Rattle.bor_wire.specs.Exchanges.{TellsRefusal, TellsUnavailable, UnlessUnavailable}
+use Rattle.bor_wire.specs.Exchanges.{agent_spelled}
 
 -- One exchange, which ended so, led from the old keep to the new one. Its reader had the bytes
 -- `known`, and its writer held those of `held` before it and those of `holds` after it. Where the
@@ -39,15 +40,15 @@ pub record AnswersOne {K W : Type 0} (meaning : Meaning K Register W StoreFault)
 
 -- The same of a reply that stays in memory.
 abbrev pub Responds : {K W : Type 0} → Meaning K Register W StoreFault → K → K → Option (List ℕ)
-    → Outgoing → Type 0
+    → Sent → Type 0
 Responds meaning old new known out =
-    AnswersOne meaning old new (Replied (status_out out)) known (Some []) (Some (bytes_out out))
+    AnswersOne meaning old new (Replied (status_sent out)) known (Some []) (Some (bytes_sent out))
 
 -- ---- for clauses of private functions alone
 
 -- The same of what goes out for an input that spells this, beside which this agent is named.
 pub record GoesOutFor {K W : Type 0} (meaning : Meaning K Register W StoreFault) (old new : K)
-    (named : Option (List ℕ)) (out : Outgoing) (spelled : Spelled) : Type 0 where
+    (named : Option (List ℕ)) (out : Sent) (spelled : Spelled) : Type 0 where
   pub leaves : Leaves meaning old new (λ r left. meaning.left_shows left (after r spelled))
   pub reply : Promised meaning old new (λ r. IsOrdered r.members
       → GoesOut out (meaning.shows new) r spelled)
@@ -55,10 +56,10 @@ pub record GoesOutFor {K W : Type 0} (meaning : Meaning K Register W StoreFault)
   pub up : IfAsked spelled (IfFull out (meaning.is_sound new → meaning.is_clean new))
   pub agent : Promised meaning old new (λ r. IsFor out named (agent_spelled r spelled))
   pub refused : (why : Refusal) → spelled ≡ Err why → IsRefusal out why
-  pub status : HasStatus out
+  pub status : TellsStatus out
 
 -- what goes out, where anything does; else the keep was asked nothing
 abbrev pub RespondsIfRead : {K W : Type 0} → Meaning K Register W StoreFault → K → K
-    → Option (List ℕ) → Option Outgoing → Type 0
-RespondsIfRead meaning old new known (Some out) = Responds meaning old new known out
+    → Option (List ℕ) → Option Response → Type 0
+RespondsIfRead meaning old new known (Some out) = Responds meaning old new known out.reply
 RespondsIfRead meaning old new known None = new ≡ old

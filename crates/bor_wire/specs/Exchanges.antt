@@ -15,13 +15,11 @@ use Rattle.bor_wire.specs.Rendering.Replies.{Said, refused, answered, status_of,
 use Rattle.bor_wire.specs.declared.rendering.reply.TheConstants.{UNAVAILABLE}
 use Rattle.bor_wire.specs.declared.outcome.Outcome.{Outcome}
 use Rattle.bor_wire.specs.declared.outcome.Outcome.TheVariants.{Replied, ReadFailed, WriteFailed}
-use Rattle.bor_wire.specs.declared.outgoing.Outgoing.{Outgoing}
-use Rattle.bor_wire.specs.declared.outgoing.Outgoing.TheVariants as outgoing
-use Rattle.bor_wire.specs.declared.outgoing.Response.{Response}
+use Rattle.bor_wire.specs.declared.response.Response.{Response}
 use Rattle.bor_wire.specs.Inputs.{IsSaid, after}
 use Rattle.bor_wire.specs.Reports.{IsExact}
 use Rattle.bor_wire.specs.Histories.{IsAlone}
-use Rattle.bor_wire.specs.Refused.{IsFull}
+use Rattle.bor_wire.specs.Sent.{Sent, Full, Unavailable}
 
 -- ---- the spelling of an input
 
@@ -29,7 +27,7 @@ use Rattle.bor_wire.specs.Refused.{IsFull}
 abbrev pub IsSpelled : Option (List ℕ) → Spelled → Type 0
 IsSpelled known spelled = IfSome known (λ input. Spells input spelled)
 
--- ---- the reply that goes out; but for `HasStatus`, for clauses of private functions alone
+-- ---- the reply that goes out; for clauses of private functions alone
 
 -- the status and the bytes are those of what is said to the input, and the register after it is
 -- shown
@@ -39,20 +37,15 @@ IsSent shown r spelled status bytes =
     × shown (after r spelled)
 
 -- the reply that goes out for an input that spells this, or nothing changed
-abbrev pub GoesOut : Outgoing → (Register → Type 0) → Register → Spelled → Type 0
-GoesOut (outgoing.Full status bytes) shown r spelled = IsSent shown r spelled status bytes.items
-GoesOut outgoing.Unavailable shown r spelled = shown r
-
--- a whole reply begins with its status, which isn't 503
-abbrev pub HasStatus : Outgoing → Type 0
-HasStatus (outgoing.Full status bytes) = IsFull bytes.items status
-HasStatus outgoing.Unavailable = ⊤
+abbrev pub GoesOut : Sent → (Register → Type 0) → Register → Spelled → Type 0
+GoesOut (Full status bytes) shown r spelled = IsSent shown r spelled status bytes
+GoesOut Unavailable shown r spelled = shown r
 
 -- a whole reply is the refusal
-abbrev pub IsRefusal : Outgoing → Refusal → Type 0
-IsRefusal (outgoing.Full status bytes) why =
-    (status ≡ status_of (refused why)) × (bytes.items ≡ bytes_of (refused why))
-IsRefusal outgoing.Unavailable why = ⊤
+abbrev pub IsRefusal : Sent → Refusal → Type 0
+IsRefusal (Full status bytes) why =
+    (status ≡ status_of (refused why)) × (bytes ≡ bytes_of (refused why))
+IsRefusal Unavailable why = ⊤
 
 -- the desk's reply, where there is one, has the answer
 abbrev pub TellsAnswer : Option DeskReply → Register → Asked → Type 0
@@ -65,18 +58,18 @@ left_by_desk None r asked = r
 
 -- the reply that goes out has the status and the bytes of the desk's reply; nothing may go out of
 -- one that only has what was read
-abbrev pub IsRendered : Outgoing → DeskReply → Type 0
-IsRendered (outgoing.Full status bytes) reply =
-    (status ≡ status_of (answered reply)) × (bytes.items ≡ bytes_of (answered reply))
-IsRendered outgoing.Unavailable reply = is_long reply ≡ true
+abbrev pub IsRendered : Sent → DeskReply → Type 0
+IsRendered (Full status bytes) reply =
+    (status ≡ status_of (answered reply)) × (bytes ≡ bytes_of (answered reply))
+IsRendered Unavailable reply = is_long reply ≡ true
 
 -- where there is no whole reply, or one with a status of 400 or more, P holds
-abbrev pub IfRefusing : Outgoing → Type 0 → Type 0
-IfRefusing (outgoing.Full status bytes) P = 400 ≤ status → P
-IfRefusing outgoing.Unavailable P = P
+abbrev pub IfRefusing : Sent → Type 0 → Type 0
+IfRefusing (Full status bytes) P = 400 ≤ status → P
+IfRefusing Unavailable P = P
 
 -- a reader's fault is counted where there is nothing to go out
-abbrev pub faults_unread : Option Outgoing → ℕ → ℕ
+abbrev pub faults_unread : Option Response → ℕ → ℕ
 faults_unread None n = after_fault n
 faults_unread (Some reply) n = n
 
@@ -129,28 +122,12 @@ pub record IsExchanged (outcome : Outcome) (shown : Register → Type 0) (r : Re
   pub replied : (status : ℕ) → status_told outcome ≡ Some status → status ≢ 503
       → IsReplied outcome shown r known old new status
 
--- ---- replies in memory
-
--- its status and its bytes
-abbrev pub status_out : Outgoing → ℕ
-status_out (outgoing.Full status bytes) = status
-status_out outgoing.Unavailable = 503
-
-abbrev pub bytes_out : Outgoing → List ℕ
-bytes_out (outgoing.Full status bytes) = bytes.items
-bytes_out outgoing.Unavailable = UNAVAILABLE.now
-
 -- ---- where a request is answered
 
 -- P, where a request is spelled
 abbrev pub IfAsked : Spelled → Type 0 → Type 0
 IfAsked (Ok asked) P = P
 IfAsked (Err why) P = Unit {0}
-
--- P, where a whole reply goes out
-abbrev pub IfFull : Outgoing → Type 0 → Type 0
-IfFull (outgoing.Full status bytes) P = P
-IfFull outgoing.Unavailable P = Unit {0}
 
 -- P, where the reply has another status than 503
 abbrev pub UnlessUnavailable : Outcome → Type 0 → Type 0
@@ -176,16 +153,16 @@ agent_spelled r (Ok asked) = agent_of (caller_of asked.token r)
 agent_spelled r (Err why) = None
 
 -- beside a whole reply the agent that asks is named, if one does; with 503 none has to be
-abbrev pub IsFor : Outgoing → Option (List ℕ) → Option (List ℕ) → Type 0
-IsFor (outgoing.Full status bytes) named asks = named ≡ asks
-IsFor outgoing.Unavailable named asks = IfSome named (λ name. asks ≡ Some name)
+abbrev pub IsFor : Sent → Option (List ℕ) → Option (List ℕ) → Type 0
+IsFor (Full status bytes) named asks = named ≡ asks
+IsFor Unavailable named asks = IfSome named (λ name. asks ≡ Some name)
 
 -- The response to an input names the agent that has the token which the input spells, and none
 -- where there is no such agent, or no request; with 503 it may name none.
 abbrev pub NamesWhoAsks : Register → List ℕ → Response → Type 0
 NamesWhoAsks r input response =
     (spelled : Spelled) → Spells input spelled
-    → IsFor response.outgoing response.agent (agent_spelled r spelled)
+    → IsFor response.reply response.agent (agent_spelled r spelled)
 
 -- the desk's reply, where there is one, is for the agent that asks; without one, no other agent is
 -- named (for clauses of private functions alone)

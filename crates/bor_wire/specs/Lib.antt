@@ -8,6 +8,7 @@ pub mod Answering
 pub mod Nobody
 pub mod AllRefusals
 pub mod Refused
+pub mod Sent
 pub mod Replays
 pub mod Repeats
 pub mod ReportBytes

@@ -3,7 +3,7 @@ use Rattle.std.specs.Prelude.{ℕ, List}
 use Rattle.bor_register.specs.Register.{Register}
 use Rattle.bor_desk.specs.Operations.Legality.{IsLegal}
 use Rattle.bor_wire.specs.Spelling.Spell.{Spelled}
-use Rattle.bor_wire.specs.declared.replies.Reply.{Reply}
+use Rattle.bor_wire.specs.Sent.{Sent}
 use Rattle.bor_wire.specs.Runs.{AreReplies, AreSpelled, full, register_left, served}
 use Rattle.bor_wire.specs.Histories.{IsAlone}
 use Rattle.bor_wire.specs.Reports.{AreReports}
@@ -26,7 +26,7 @@ pub record IsRunOver (Shown : Register → Type 0) (r : Register) (spelled : Lis
 
 -- Without the inputs whose reply is `Unavailable`, the replies are those of the run over whatever
 -- the others spell.
-abbrev pub IsReplayed : (Register → Type 0) → Register → List (List ℕ) → List Reply → Type 0
+abbrev pub IsReplayed : (Register → Type 0) → Register → List (List ℕ) → List Sent → Type 0
 IsReplayed Shown r inputs replies =
     (spelled : List Spelled) → AreSpelled (served inputs replies) spelled
     → IsRunOver Shown r spelled (full replies)

@@ -3,8 +3,7 @@ use Rattle.std.specs.Prelude.{ℕ, List, [], ◌∷◌}
 use Rattle.std.specs.List.{AllZip}
 use Rattle.bor_register.specs.Register.{Register}
 use Rattle.bor_wire.specs.Spelling.Spell.{Spelled, Spells}
-use Rattle.bor_wire.specs.declared.replies.Reply.{Reply}
-use Rattle.bor_wire.specs.declared.replies.Reply.TheVariants.{Full, Unavailable}
+use Rattle.bor_wire.specs.Sent.{Sent, Full, Unavailable}
 use Rattle.bor_wire.specs.Inputs.{IsReplyTo, after}
 
 -- ---- the run
@@ -24,16 +23,16 @@ register_left r (spelled ∷ rest) = register_left (after r spelled) rest
 -- ---- the part of a list of inputs that is in it
 
 -- the inputs that were answered: one whose reply is `Unavailable` changed nothing
-abbrev pub served : List (List ℕ) → List Reply → List (List ℕ)
+abbrev pub served : List (List ℕ) → List Sent → List (List ℕ)
 served [] replies = []
 served (input ∷ inputs) [] = []
-served (input ∷ inputs) (Full bytes ∷ replies) = input ∷ served inputs replies
+served (input ∷ inputs) (Full status bytes ∷ replies) = input ∷ served inputs replies
 served (input ∷ inputs) (Unavailable ∷ replies) = served inputs replies
 
 -- the replies to them
-abbrev pub full : List Reply → List (List ℕ)
+abbrev pub full : List Sent → List (List ℕ)
 full [] = []
-full (Full bytes ∷ replies) = bytes ∷ full replies
+full (Full status bytes ∷ replies) = bytes ∷ full replies
 full (Unavailable ∷ replies) = full replies
 
 -- each input spells this

@@ -5,43 +5,23 @@ use Rattle.bor_records.specs.Promises.{Meaning, Promised}
 use Rattle.bor_register.specs.Register.{Register}
 use Rattle.bor_desk.specs.Operations.Legality.{IsLegal}
 use Rattle.bor_wire.specs.declared.outcome.Outcome.TheVariants.{Replied}
-use Rattle.bor_wire.specs.declared.rendering.reply.TheConstants.{UNAVAILABLE}
-use Rattle.bor_wire.specs.declared.replies.Reply.{Reply}
-use Rattle.bor_wire.specs.declared.replies.Reply.TheVariants.{Full, Unavailable}
+use Rattle.bor_wire.specs.Sent.{Sent, IfFull, TellsStatus, bytes_sent, status_sent}
 use Rattle.bor_desk.specs.Runs.{Asked}
-use Rattle.bor_wire.specs.Answering.{AnswersOne}
 use Rattle.bor_wire.specs.Exchanges.{UnlessUnavailable, IfAsked, OnSpelled}
 use Rattle.bor_wire.specs.Spelling.Spell.{Spelled, Spells}
-use Rattle.bor_wire.specs.Refused.{IsFull}
 use Rattle.bor_wire.specs.Sequences.{AreExchanged, Exchanged, IsRun, is_answered, keep_left}
 
--- the bytes that a reply is sent as
-abbrev pub sent_as : Reply → List ℕ
-sent_as (Full bytes) = bytes
-sent_as Unavailable = UNAVAILABLE.now
-
--- a full reply has the status that its bytes begin with, which isn't 503, and any other has 503
-abbrev pub HasStatusOf : Reply → ℕ → Type 0
-HasStatusOf (Full bytes) status = IsFull bytes status
-HasStatusOf Unavailable status = status ≡ 503
-
--- P, where the reply is whole
-abbrev pub IfWhole : Reply → Type 0 → Type 0
-IfWhole (Full bytes) P = P
-IfWhole Unavailable P = Unit {0}
-
 -- The exchange was over this input, which lay in memory, and the reply is what was written.
-pub record IsTurn {K : Type 0} (input : List ℕ) (reply : Reply) (e : Exchanged K) : Type 0 where
-  pub status : ℕ
-  pub status_is : HasStatusOf reply status
-  pub outcome : e.outcome ≡ Replied status
+pub record IsTurn {K : Type 0} (input : List ℕ) (reply : Sent) (e : Exchanged K) : Type 0 where
+  pub told : TellsStatus reply
+  pub outcome : e.outcome ≡ Replied (status_sent reply)
   pub known : e.known ≡ Some input
   pub held : e.held ≡ Some []
-  pub holds : e.holds ≡ Some (sent_as reply)
-  pub spells : IfWhole reply ((spelled : Spelled) × Spells input spelled)
+  pub holds : e.holds ≡ Some (bytes_sent reply)
+  pub spells : IfFull reply ((spelled : Spelled) × Spells input spelled)
 
 -- each exchange was over its input, and has its reply
-abbrev pub AreTurns : {K : Type 0} → List (List ℕ) → List Reply → List (Exchanged K) → Type 0
+abbrev pub AreTurns : {K : Type 0} → List (List ℕ) → List Sent → List (Exchanged K) → Type 0
 AreTurns [] [] [] = Unit {0}
 AreTurns (input ∷ inputs) (reply ∷ replies) (e ∷ rest) =
     IsTurn input reply e × AreTurns inputs replies rest
@@ -63,7 +43,7 @@ AllAnswerClean meaning (e ∷ rest) = AnswersClean meaning e × AllAnswerClean m
 -- The replies to the inputs are those of exchanges one after the other, the first from the old
 -- keep, each from the keep that the one before it left, and the last leaves the new one.
 pub record InTurn {K W : Type 0} (meaning : Meaning K Register W StoreFault) (old new : K)
-    (inputs : List (List ℕ)) (replies : List Reply) : Type 0 where
+    (inputs : List (List ℕ)) (replies : List Sent) : Type 0 where
   pub exchanges : List (Exchanged K)
   pub turns : AreTurns inputs replies exchanges
   pub each : AreExchanged meaning old exchanges
@@ -96,13 +76,3 @@ AnswersAreRuns {K} {W} meaning =
     → AreExchanged meaning keep (front ++ e ∷ rest) →
     AnswersClean meaning e → IsRequestAnswered e → meaning.is_sound e.keep → (r : Register)
     → meaning.shows keep r → IsLegal r → IsRun (meaning.shows e.keep) r (front ++ e ∷ [])
-
--- ---- for clauses of private functions alone
-
--- one reply, as an exchange between these keeps
-pub record TakesTurn {K W : Type 0} (meaning : Meaning K Register W StoreFault) (old new : K)
-    (input : List ℕ) (reply : Reply) : Type 0 where
-  pub status : ℕ
-  pub status_is : HasStatusOf reply status
-  pub answers : AnswersOne meaning old new (Replied status) (Some input) (Some [])
-      (Some (sent_as reply))

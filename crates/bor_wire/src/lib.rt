@@ -23,14 +23,16 @@
 
 pub mod laws;
 mod outcome;
-mod outgoing;
 pub mod rendering;
 mod replies;
+mod reply;
+mod response;
 pub mod spelling;
 
 pub use crate::rendering::{UNAVAILABLE, render};
 pub use crate::spelling::{Asking, parse};
 pub use bor_http::incoming::{Counted, Name, Path, RawRequest, Refusal, WireFault, read_request};
 pub use outcome::{Outcome, exchange};
-pub use outgoing::{Outgoing, Response, respond};
-pub use replies::{FullReply, Reply, replay};
+pub use replies::replay;
+pub use reply::Reply;
+pub use response::{Response, respond};

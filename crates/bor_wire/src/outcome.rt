@@ -5,9 +5,10 @@ ghost use Rattle.bor_http.specs.Incoming.Message.{request_limit};
 ghost use Rattle.bor_http.specs.Incoming.Reading.{TakesAtMost};
 ghost use Rattle.bor_wire.specs.Answering.{AnswersOne};
 ghost use Rattle.bor_wire.specs.Exchanges.{IsWritten, read_faults, write_faults};
+ghost use Rattle.bor_wire.specs.Sent.{bytes_sent, status_sent};
 
-use crate::outgoing::{Outgoing, read_reply};
-use crate::rendering::UNAVAILABLE;
+use crate::reply::Reply;
+use crate::response::read_reply;
 use crate::spelling::Paths;
 use bor_desk::operations::Keep;
 use bor_http::incoming::{Counted, send};
@@ -27,13 +28,14 @@ pub enum Outcome {
     WriteFailed(u16),
 }
 
-// Writes the bytes of a reply with this status.
-fn write_reply<W: Write>(writer: &mut Counted<W>, status: u16, bytes: &[u8]) -> Outcome
-    ensures written { IsWritten result status bytes.now (W.contents writer.old.inner)
-        (W.contents writer.new.inner) }
+// Writes a reply.
+fn write_reply<W: Write>(writer: &mut Counted<W>, reply: &Reply) -> Outcome
+    ensures written { IsWritten result (status_sent reply.now) (bytes_sent reply.now)
+        (W.contents writer.old.inner) (W.contents writer.new.inner) }
     ensures faults { writer.new.faults ≡ write_faults result writer.old.faults }
 {
-    if send(writer, bytes) {
+    let status = reply.status();
+    if send(writer, reply.bytes()) {
         Outcome::Replied(status)
     } else {
         Outcome::WriteFailed(status)
@@ -44,10 +46,11 @@ fn write_reply<W: Write>(writer: &mut Counted<W>, status: u16, bytes: &[u8]) -> 
 ///
 /// With a status other than 503 the bytes that are written, of which a failing writer takes a
 /// front, are the reply to the one input, which each agent receives as it would alone, and the
-/// register left is the one after it. With 503 they are [`UNAVAILABLE`], and nothing changed,
-/// unless the store shut in its commit: then the next one to open it may find the change.
+/// register left is the one after it. With 503 they are [`UNAVAILABLE`](crate::UNAVAILABLE), and
+/// nothing changed, unless the store shut in its commit: then the next one to open it may find the
+/// change.
 ///
-/// Of any keep it is said that 503 has [`UNAVAILABLE`] written, which refusal answers an input that
+/// Of any keep it is said that 503 has `UNAVAILABLE` written, which refusal answers an input that
 /// spells no request, and, if its store has returned what was written, that a request has another
 /// status than 503 only where the keep ends clean, and that a stop leaves what one before might
 /// have left, or the register after the request. Of a keep that ends clean it is said
@@ -76,12 +79,10 @@ pub fn exchange<K: Keep, R: Read, W: Write>(
     ensures write_faults { writer.new.faults ≡ write_faults result writer.old.faults }
 {
     let Ok(paths) = Paths::new(alloc) else {
-        return write_reply(writer, 503, UNAVAILABLE);
+        return write_reply(writer, &Reply::unavailable());
     };
-    let (_, outgoing) = read_reply(alloc, &paths, keep, reader);
-    match outgoing {
-        Some(Outgoing::Full(status, bytes)) => write_reply(writer, status, &bytes),
-        Some(Outgoing::Unavailable) => write_reply(writer, 503, UNAVAILABLE),
+    match read_reply(alloc, &paths, keep, reader) {
+        Some(response) => write_reply(writer, &response.reply),
         None => Outcome::ReadFailed,
     }
 }

@@ -1,4 +1,4 @@
-//! Replies, and those to a list of inputs.
+//! The replies to a list of inputs.
 
 ghost use Rattle.std.specs.Prelude.{◌≡◌, List, IfOk, OnErr, length, map};
 ghost use Rattle.bor_records.specs.Promises.{Promised};
@@ -6,102 +6,19 @@ ghost use Rattle.bor_desk.specs.Operations.Legality.{IsLegal};
 ghost use Rattle.bor_wire.specs.Spelling.Spell.{Spelled};
 ghost use Rattle.bor_wire.specs.Runs.{AreSpelled, served};
 ghost use Rattle.bor_wire.specs.Replays.{IsReplayed};
-ghost use Rattle.bor_wire.specs.Turns.{InTurn, TakesTurn};
+ghost use Rattle.bor_wire.specs.Turns.{InTurn};
 
-use crate::outgoing::{Outgoing, Response, respond};
-use crate::rendering::UNAVAILABLE;
+use crate::reply::Reply;
+use crate::response::{Response, respond};
 use crate::spelling::Paths;
 use bor_desk::operations::Keep;
 use std::alloc::{AllocError, Global};
-use std::marker::Model;
 
-/// The bytes of a full reply, and beside them the status that their first line tells. Contracts see
-/// the bytes, which determine the status.
-#[derive(Drop)]
-pub struct FullReply {
-    status: u16,
-    bytes: Vec<u8>,
-}
-
-impl Model for FullReply {
-    ghost use Rattle.std.specs.Prelude.{ℕ, List};
-    ghost use Rattle.bor_wire.specs.Refused.{IsFull};
-
-    ghost Value = { List ℕ };
-
-    ghost view = { λ a. a.bytes.items };
-
-    ghost invariant = { λ a. IsFull a.bytes.items a.status };
-}
-
-impl FullReply {
-    ghost use Rattle.bor_wire.specs.Refused.{IsFull};
-
-    /// The status that the bytes begin with. It isn't 503.
-    pub fn status(&self) -> u16
-        ensures { IsFull self.now result }
-    {
-        self.status
-    }
-
-    /// The bytes.
-    pub fn as_slice(&self) -> &[u8]
-        ensures { result.now ≡ self.now }
-    {
-        self.bytes.as_slice()
-    }
-}
-
-/// The reply to an input.
-#[derive(Drop)]
-pub enum Reply {
-    /// The whole reply, with its status.
-    Full(FullReply),
-    /// Memory was wanting, or the keep failed. Nothing changed, unless its store shut in its
-    /// commit. What is sent is [`UNAVAILABLE`](crate::rendering::UNAVAILABLE).
-    Unavailable,
-}
-
-impl Reply {
-    ghost use Rattle.bor_wire.specs.Turns.{HasStatusOf, sent_as};
-
-    /// The status: of a full reply the one that its bytes begin with, and 503 of any other.
-    pub fn status(&self) -> u16
-        ensures { HasStatusOf self.now result }
-    {
-        match self {
-            Reply::Full(reply) => reply.status(),
-            Reply::Unavailable => 503,
-        }
-    }
-
-    /// The bytes, as they are sent.
-    pub fn bytes(&self) -> &[u8]
-        ensures { result.now ≡ sent_as self.now }
-    {
-        match self {
-            Reply::Full(reply) => reply.as_slice(),
-            Reply::Unavailable => UNAVAILABLE,
-        }
-    }
-}
-
-// The reply to one input.
-fn reply_to<K: Keep>(alloc: Global, paths: &Paths, keep: &mut K, input: &[u8]) -> Reply
-    ensures { TakesTurn K.meaning keep.old keep.new input.now result }
-{
-    let Response { outgoing, .. } = respond(alloc, paths, keep, input);
-    match outgoing {
-        Outgoing::Full(status, bytes) => Reply::Full(FullReply { status, bytes }),
-        Outgoing::Unavailable => Reply::Unavailable,
-    }
-}
-
-/// Answers inputs in turn, each from the register that the one before it left.
+/// Answers inputs in turn, each from the register that the one before it left, as [`respond`] does.
 ///
-/// Without the inputs whose reply is [`Reply::Unavailable`], the replies are those of the run over
-/// what the inputs spell, and so is the register left; what each agent receives follows from its
-/// own exchanges alone; a report on chains with status 200 names exactly the persons joined to the
+/// Without the inputs whose reply has status 503, the replies are those of the run over what the
+/// inputs spell, and so is the register left; what each agent receives follows from its own
+/// exchanges alone; a report on chains with status 200 names exactly the persons joined to the
 /// entity in what the caller sees; and a reply with a status of 400 or more leaves the register as
 /// it was.
 ///
@@ -133,7 +50,7 @@ pub fn replay<K: Keep>(
     let paths = Paths::new(alloc)?;
     let mut replies = Vec::with_capacity(alloc, inputs.len())?;
     for input in inputs {
-        let reply = reply_to(alloc, &paths, keep, input);
+        let Response { reply, .. } = respond(alloc, &paths, keep, input);
         replies.push_reserved(reply);
     }
     Ok(replies)

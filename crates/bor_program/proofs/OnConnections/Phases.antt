@@ -4,7 +4,7 @@ use Rattle.std.proofs.Common.{◌≡◌, ◌≢◌, ◌<◌, ◌∙◌, ◌++◌
 use Rattle.std.specs.declared.time.Duration.{Duration}
 use Rattle.bor_records.specs.Promises.{Meaning, Promised}
 use Rattle.bor_register.specs.Register.{Register}
-use Rattle.bor_wire.specs.declared.outgoing.Outgoing.{Outgoing}
+use Rattle.bor_wire.specs.Sent.{Sent}
 use Rattle.bor_wire.specs.Answering.{Responds}
 use Rattle.bor_program.specs.Connections.Serving.{GivenReply, IsNoteOn, IsServing, answer_of}
 use Rattle.bor_program.specs.declared.log.Note.{Note}
@@ -25,13 +25,13 @@ pub same_step : {K S Left : Type 0} (meaning : Meaning K Register Left StoreFaul
 same_step meaning wire keep this that notes same = λ start others tally noted before.
     subst (λ l. IsServing meaning (EndedOn wire) start keep (l ++ others) (record tally { notes = noted ++ notes })) (sym same) before
 
-noted_so : (promised : (Register → Type 0) → Type 0) (request : List ℕ) (reply : Outgoing) (before after : List Note) → MayNote (IsNoteOf promised request reply) before after
+noted_so : (promised : (Register → Type 0) → Type 0) (request : List ℕ) (reply : Sent) (before after : List Note) → MayNote (IsNoteOf promised request reply) before after
     → MayNote (IsNoteOn promised (answer_of request reply)) before after
 noted_so promised request reply before after (inl same) = inl same
 noted_so promised request reply before after (inr more) = inr (more.0, more.1, record { out = reply; is = refl; so = more.2 })
 
 -- a reply in memory is an answer
-pub answer_step : {K S Left : Type 0} (meaning : Meaning K Register Left StoreFault) (wire : Wire S) (old new : K) (request : List ℕ) (reply : Outgoing) (that : List GivenReply) (before after : List Note)
+pub answer_step : {K S Left : Type 0} (meaning : Meaning K Register Left StoreFault) (wire : Wire S) (old new : K) (request : List ℕ) (reply : Sent) (that : List GivenReply) (before after : List Note)
     → that ≡ answer_of request reply ∷ [] → Responds meaning old new (Some request) reply → MayNote (IsNoteOf (Promised meaning old new) request reply) before after
     → IsStep meaning wire (stand_at old [] before) (stand_at new that after)
 answer_step meaning wire old new request reply that before after is responds notes = λ start others tally noted was.

@@ -8,8 +8,7 @@ use Rattle.bor_records.specs.Promises.{Meaning, Promised}
 use Rattle.bor_register.specs.Register.{Register}
 use Rattle.bor_desk.specs.Operations.Legality.{IsLegal}
 use Rattle.bor_wire.specs.declared.outcome.Outcome.TheVariants.{Replied}
-use Rattle.bor_wire.specs.declared.outgoing.Outgoing.{Outgoing}
-use Rattle.bor_wire.specs.Exchanges.{bytes_out, status_out}
+use Rattle.bor_wire.specs.Sent.{Sent, bytes_sent, status_sent}
 use Rattle.bor_wire.specs.Sequences.{AreExchanged, Exchanged, IsRun, keep_left}
 use Rattle.bor_wire.specs.Turns.{AllAnswerClean}
 use Rattle.bor_program.specs.declared.log.Note.{Note}
@@ -27,8 +26,9 @@ pub record GivenReply : Type 0 where
   pub status : ℕ
   pub reply : List ℕ
 
-abbrev pub answer_of : List ℕ → Outgoing → GivenReply
-answer_of request out = record { request = request; status = status_out out; reply = bytes_out out }
+abbrev pub answer_of : List ℕ → Sent → GivenReply
+answer_of request out =
+    record { request = request; status = status_sent out; reply = bytes_sent out }
 
 -- an answer, and the keep that it left
 pub record Answered (K : Type 0) : Type 0 where
@@ -57,7 +57,7 @@ answers_in answered = map (λ a. a.answer) answered
 -- this note is of a request that had this answer
 pub record IsNoteOn (promised : (Register → Type 0) → Type 0) (answer : GivenReply)
     (note : Note) : Type 0 where
-  pub out : Outgoing
+  pub out : Sent
   pub is : answer ≡ answer_of answer.request out
   pub so : IsNoteOf promised answer.request out note
 

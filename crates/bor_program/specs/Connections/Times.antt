@@ -9,7 +9,7 @@ use Rattle.bor_program.specs.declared.connections.phase.Phase.{Phase}
 use Rattle.bor_program.specs.declared.connections.phase.Phase.TheVariants as phase
 use Rattle.bor_program.specs.declared.connections.taking.Taking.{Taking}
 use Rattle.bor_program.specs.declared.connections.timing.Timing.{Timing}
-use Rattle.bor_wire.specs.Exchanges.{bytes_out}
+use Rattle.bor_wire.specs.Sent.{bytes_sent}
 use Rattle.bor_program.specs.declared.connections.phase.Pace.TheVariants as pace
 use Rattle.bor_program.specs.declared.connections.phase.Step.{Step}
 use Rattle.bor_program.specs.declared.connections.phase.Step.TheVariants as step
@@ -119,7 +119,7 @@ abbrev pub moves_of : {S : Type 0} → Phase S → ℕ
 moves_of (phase.Reading reading) = length reading.received.items
 moves_of (phase.Writing writing) = length writing.request.value.items + 1 + writing.sent
 moves_of (phase.Draining draining) =
-    length draining.request.value.items + length (bytes_out draining.reply) + 2
+    length draining.request.value.items + length (bytes_sent draining.reply) + 2
     + (rest_limit - draining.left)
 
 -- a step moves something, unless nothing can be read or written

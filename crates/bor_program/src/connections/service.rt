@@ -8,7 +8,7 @@ ghost use Rattle.bor_program.specs.Logging.{IsNoteOf, MayNote};
 use crate::log::Note;
 use bor_desk::operations::Keep;
 use bor_wire::spelling::Paths;
-use bor_wire::{Outgoing, Response, respond};
+use bor_wire::{Reply, Response, respond};
 use std::alloc::Global;
 use std::mem;
 
@@ -44,7 +44,7 @@ impl Service {
     }
 
     /// Answers the request in these bytes.
-    pub(crate) fn respond<K: Keep>(&mut self, keep: &mut K, request: &[u8]) -> Outgoing
+    pub(crate) fn respond<K: Keep>(&mut self, keep: &mut K, request: &[u8]) -> Reply
         ensures answers { Responds K.meaning keep.old keep.new (Some request.now) result }
         ensures noted { MayNote (IsNoteOf
             (Promised K.meaning keep.old keep.new) request.now result)
@@ -57,13 +57,13 @@ impl Service {
         }
         match &self.paths {
             Some(paths) => {
-                let Response { agent, outgoing } = respond(self.alloc, paths, keep, request);
+                let Response { agent, reply } = respond(self.alloc, paths, keep, request);
                 if self.is_noting {
-                    let _ = self.notes.push(Note::of(paths, request, agent, &outgoing));
+                    let _ = self.notes.push(Note::of(paths, request, agent, &reply));
                 }
-                outgoing
+                reply
             }
-            None => Outgoing::Unavailable,
+            None => Reply::unavailable(),
         }
     }
 

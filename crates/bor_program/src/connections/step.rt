@@ -17,7 +17,7 @@ use crate::connections::service::Service;
 use crate::connections::timing::Timing;
 use crate::connections::writing::{Drained, Draining, Writing, Written};
 use bor_desk::operations::Keep;
-use bor_wire::Outgoing;
+use bor_wire::Reply;
 use std::io::{Read, Write};
 use std::net::OpenStream;
 use std::time::Duration;
@@ -74,7 +74,7 @@ fn read_on<K: Keep, S: Read + Write + OpenStream + Drop>(
             Step::Goes(Phase::Writing(Writing::new(reading, reply)), Pace::Turned)
         }
         Taken::Unfit => {
-            let writing = Writing::new(reading, Outgoing::Unavailable);
+            let writing = Writing::new(reading, Reply::unavailable());
             Step::Goes(Phase::Writing(writing), Pace::Turned)
         }
         Taken::Failed => Step::Ends(Phase::Reading(reading)),

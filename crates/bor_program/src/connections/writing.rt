@@ -2,7 +2,7 @@
 
 ghost use Rattle.std.specs.Prelude.{◌≡◌, ◌≢◌, ◌↔◌, ◌≤◌, ◌<◌, IsTrue, length, MatchOption, None, Some, unwrap_or};
 ghost use Rattle.bor_http.specs.Incoming.Message.{request_limit};
-ghost use Rattle.bor_wire.specs.Exchanges.{bytes_out, status_out};
+ghost use Rattle.bor_wire.specs.Sent.{bytes_sent, status_sent};
 ghost use Rattle.bor_program.specs.declared.connections.writing.Drained.TheVariants as Drained;
 ghost use Rattle.bor_program.specs.declared.connections.writing.Written.TheVariants as Written;
 ghost use Rattle.bor_program.specs.Connections.Serving.{Told, answer_of, has_failed};
@@ -12,7 +12,7 @@ ghost use Rattle.bor_program.specs.Connections.Times.{IsReplyLeft, IsSlow, begun
 use crate::connections::limits::Limits;
 use crate::connections::reading::{Reading, is_blocked};
 use crate::connections::taking::Taking;
-use bor_wire::Outgoing;
+use bor_wire::Reply;
 use std::io::{Read, Write};
 use std::net::{OpenStream, Shutdown};
 use std::snapshot::Snapshot;
@@ -24,7 +24,7 @@ use std::time::Duration;
 pub(crate) struct Writing<S> {
     stream: S,
     request: Snapshot<Vec<u8>>,
-    reply: Outgoing,
+    reply: Reply,
     sent: usize,
     taking: Option<Taking>,
 }
@@ -77,7 +77,7 @@ pub(crate) enum Written {
 impl<S: Read + Write + OpenStream> Writing<S> {
     /// A client whose request has come, and of whose reply nothing was written. The bytes of the
     /// request are let go.
-    pub(crate) fn new(reading: Reading<S>, reply: Outgoing) -> Writing<S>
+    pub(crate) fn new(reading: Reading<S>, reply: Reply) -> Writing<S>
         requires came { Came S.remaining reading.stream reading.received.items }
         requires fits { length reading.received.items ≤ request_limit }
         requires ready { IsReady S.remaining reading.stream
@@ -108,7 +108,7 @@ impl<S: Read + Write + OpenStream> Writing<S> {
         ensures request { self.new.request ≡ self.old.request }
         ensures reply { self.new.reply ≡ self.old.reply }
         ensures taking { self.new.taking ≡ self.old.taking }
-        ensures whole { result ≡ Written.Whole → self.new.sent ≡ length (bytes_out self.new.reply) }
+        ensures whole { result ≡ Written.Whole → self.new.sent ≡ length (bytes_sent self.new.reply) }
         ensures more { result ≡ Written.More → self.old.sent < self.new.sent }
         ensures other { result ≢ Written.More → self.new.sent ≡ self.old.sent }
     {
@@ -137,14 +137,14 @@ impl<S: Read + Write + OpenStream> Writing<S> {
 
     /// Tells the client, to whom all was written, that no more is.
     pub(crate) fn end(self) -> Draining<S>
-        requires whole { self.sent ≡ length (bytes_out self.reply) }
+        requires whole { self.sent ≡ length (bytes_sent self.reply) }
         requires held { IsWriting (wire_of S.remaining S.contents) self.stream
             (answer_of self.request.value.items self.reply) self.sent }
         ensures held { IsDraining (wire_of S.remaining S.contents) result.stream
             (answer_of result.request.value.items result.reply) result.left }
         ensures request { result.request ≡ self.request }
         ensures reply { result.reply ≡ self.reply }
-        ensures waited { IsTrue result.is_waited_for ↔ MayBeUnread (status_out self.reply) }
+        ensures waited { IsTrue result.is_waited_for ↔ MayBeUnread (status_sent self.reply) }
     {
         let _ = self.stream.shutdown(Shutdown::Write);
         Draining {
@@ -177,7 +177,7 @@ const DROPPED: usize = 1_024;
 pub(crate) struct Draining<S> {
     stream: S,
     request: Snapshot<Vec<u8>>,
-    reply: Outgoing,
+    reply: Reply,
     left: usize,
     is_waited_for: bool,
 }
@@ -198,7 +198,7 @@ impl<S: Read + Write> Draining<S> {
     pub(crate) fn has_failed(&self) -> bool
         ensures { result ≡ has_failed
             (Told (answer_of self.now.request.value.items self.now.reply)
-            (length (bytes_out self.now.reply))) }
+            (length (bytes_sent self.now.reply))) }
     {
         self.reply.status() == 503
     }

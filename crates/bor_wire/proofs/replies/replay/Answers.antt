@@ -16,8 +16,8 @@ loop-input-preserved g c =
       room = grind (arith, common_steps);
       turns =
           rw (c.push_reserved.ensures.items, more, ← c.input-item.is, ← c.deref.ensures.value)
-          (in_turn_more g.K.Keep.meaning c.args.keep.now c.loop-input.keep c.reply_to-reply.new.keep (map (λ v. v.items) (take i inputs)) c.loop-input.replies.items c.deref.result.now
-          c.reply_to-reply.result inv.turns c.reply_to-reply.ensures);
+          (in_turn_more g.K.Keep.meaning c.args.keep.now c.loop-input.keep c.respond-reply.new.keep (map (λ v. v.items) (take i inputs)) c.loop-input.replies.items c.deref.result.now
+          c.respond-reply.result.reply inv.turns c.respond-reply.ensures.status c.respond-reply.ensures.answers);
     }
 
 pub returns-clause-began : goal.returns-clause-began

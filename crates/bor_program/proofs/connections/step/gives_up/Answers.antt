@@ -1,5 +1,5 @@
 use Rattle.std.proofs.Common.{length, refl}
-use Rattle.bor_wire.specs.Exchanges.{bytes_out}
+use Rattle.bor_wire.specs.Sent.{bytes_sent}
 use Rattle.bor_program.specs.Connections.Serving.{Told, Unanswered, answer_of}
 use Rattle.bor_program.proofs.OnConnections.Streams.{told_draining, told_writing}
 use Rattle.bor_program.proofs.connections.step.gives_up.Goals as goal
@@ -22,4 +22,4 @@ returns g c =
     let d = c.in-Draining.draining in
     let held = rw c.in-Draining.is at c.requires in
     let answer = answer_of d.request.value.items d.reply in
-    (Told answer (length (bytes_out d.reply)), told_draining _ d.stream answer d.left held, rw c.in-Draining.is refl, c.has_failed-in-Draining.ensures, refl)
+    (Told answer (length (bytes_sent d.reply)), told_draining _ d.stream answer d.left held, rw c.in-Draining.is refl, c.has_failed-in-Draining.ensures, refl)

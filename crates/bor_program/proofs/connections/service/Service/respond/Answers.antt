@@ -8,7 +8,7 @@ use Rattle.bor_program.proofs.connections.service.Service.respond.Goals.{then-is
 
 pub returns-after-self-clause-noted : goal.returns-after-self-clause-noted
 returns-after-self-clause-noted g c =
-    let out = c.respond-agent.result.outgoing in
+    let out = c.respond-agent.result.reply in
     let promised = Promised g.K.Keep.meaning c.args.keep.now c.respond-agent.new.keep in
     let P = IsNoteOf promised c.args.request.now out in
     let before : c.if-is_none.self.notes.items ≡ c.args.self.now.notes.items = elim c.if-is_none.branch [
@@ -23,7 +23,7 @@ returns-after-self-clause-noted g c =
             status = w.of.ensures.status;
             bytes = w.of.ensures.bytes;
             agent =
-                subst (λ agent. promised (λ r. NamesWhoAsks r c.args.request.now (record { agent = agent; outgoing = out }))) (sym w.of.ensures.agent) c.respond-agent.ensures.agent;
+                subst (λ agent. promised (λ r. NamesWhoAsks r c.args.request.now (record { agent = agent; reply = out }))) (sym w.of.ensures.agent) c.respond-agent.ensures.agent;
           })
       | else-self w ↦ inl (ap (λ s. s.notes.items) w.self-is)
     ])

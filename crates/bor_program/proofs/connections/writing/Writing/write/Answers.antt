@@ -1,12 +1,12 @@
 use Rattle.std.proofs.Common.{arith}
-use Rattle.bor_wire.specs.Exchanges.{bytes_out}
+use Rattle.bor_wire.specs.Sent.{bytes_sent}
 use Rattle.bor_http.proofs.OnIncoming.SendLemmas.{appends_more, to_end_length}
 use Rattle.bor_program.proofs.connections.writing.Writing.write.Goals as goal
 
 pub returns-in-Ok-clause-held : goal.returns-in-Ok-clause-held
 returns-in-Ok-clause-held g c =
     let w = c.requires in
-    let bytes = bytes_out c.args.self.now.reply in
+    let bytes = bytes_sent c.args.self.now.reply in
     let more = rw c.bytes.ensures at c.in-Ok.ensures.bytes in
     let few = rw c.bytes.ensures at c.in-Ok.ensures.bound in
     record {

@@ -3,8 +3,8 @@ use Rattle.bor_register.specs.Register.{caller_of}
 use Rattle.bor_desk.specs.Outcomes.{agent_of}
 use Rattle.bor_desk.proofs.Steps.{ordered_for}
 use Rattle.bor_wire.specs.Spelling.Spell.{asked_view}
-use Rattle.bor_wire.proofs.Outgoings.{if_full, named_beside, no_refusal, nothing_goes_out, rendered_goes, rendered_keeps, rendered_status}
-use Rattle.bor_wire.proofs.outgoing.answered.Goals as goal
+use Rattle.bor_wire.proofs.Responses.{if_full, named_beside, no_refusal, nothing_goes_out, rendered_goes, rendered_keeps, rendered_status}
+use Rattle.bor_wire.proofs.response.answered.Goals as goal
 
 pub returns-in-Some : goal.returns-in-Some
 returns-in-Some g c =
@@ -28,7 +28,7 @@ pub returns-in-None : goal.returns-in-None
 returns-in-None g c =
     let left = rw c.in-None.is at c.asked-agent.ensures.left in
     let agent = rw c.in-None.is at c.asked-agent.ensures.agent in
-    record {
+    rw c.unavailable-in-None.ensures (record {
       leaves = c.asked-agent.ensures.leaves;
       reply = λ r is clean ordered. left r is clean;
       kept = left;
@@ -36,7 +36,7 @@ returns-in-None g c =
       agent = agent;
       refused = λ why e. tt;
       status = tt;
-    }
+    })
 
 pub returns-in_default : goal.returns-in_default
-returns-in_default g c = nothing_goes_out g.K.Keep.meaning c.args.keep.now (Ok (asked_view c.args.asking.now))
+returns-in_default g c = rw c.unavailable.ensures (nothing_goes_out g.K.Keep.meaning c.args.keep.now (Ok (asked_view c.args.asking.now)))

@@ -22,9 +22,8 @@ use Rattle.bor_wire.specs.Spelling.Spell.{Spelled, spell}
 use Rattle.bor_wire.proofs.OnSpelling.Messages.{message_spelled, one_spelling}
 use Rattle.bor_wire.specs.Rendering.Replies.{Said, refused, answered, bytes_of, status_of}
 use Rattle.bor_wire.specs.Rendering.Statuses.{desk_status, wire_refusal_status}
-use Rattle.bor_wire.specs.declared.outgoing.Outgoing.{Outgoing}
-use Rattle.bor_wire.specs.declared.outgoing.Outgoing.TheVariants.{Full, Unavailable}
-use Rattle.bor_wire.specs.Exchanges.{GoesOut, HasStatus, IfAsked, IfFull, IfRefusing, IsFor, IsRefusal, IsRendered, IsSpelled, OnSpelled}
+use Rattle.bor_wire.specs.Sent.{Sent, Full, Unavailable, IfFull, TellsStatus}
+use Rattle.bor_wire.specs.Exchanges.{GoesOut, IfAsked, IfRefusing, IsFor, IsRefusal, IsRendered, IsSpelled, OnSpelled}
 use Rattle.bor_wire.specs.Answering.{GoesOutFor}
 use Rattle.bor_wire.specs.Inputs.{after}
 use Rattle.bor_wire.specs.Refused.{IsFull}
@@ -34,6 +33,11 @@ use Rattle.bor_wire.proofs.RefusalLaws.{line_first, refused_leaves}
 pub spelled_known : (known : Option (List ℕ)) (read : Result Message Refusal) → IfSome known (λ input. IsMessage input read) → IsSpelled known (read >>= spell)
 spelled_known None read h = tt
 spelled_known (Some input) read h = message_spelled input read h
+
+-- nothing has to hold
+pub asks_nothing : (s : Spelled) → IfAsked s (Unit {0})
+asks_nothing (Ok asked) = tt
+asks_nothing (Err why) = tt
 
 -- what holds whatever is spelled
 pub asked_all : (P : Type 0) (s : Spelled) → P → IfAsked s P
@@ -45,12 +49,12 @@ asked_so P Q (Ok asked) so h = so h
 asked_so P Q (Err why) so h = tt
 
 -- what holds whatever goes out
-pub if_refusing : (o : Outgoing) (P : Type 0) → P → IfRefusing o P
+pub if_refusing : (o : Sent) (P : Type 0) → P → IfRefusing o P
 if_refusing (Full status bytes) P h = λ _. h
 if_refusing Unavailable P h = h
 
 -- what holds is so of a whole reply
-pub if_full : (o : Outgoing) (P : Type 0) → P → IfFull o P
+pub if_full : (o : Sent) (P : Type 0) → P → IfFull o P
 if_full (Full status bytes) P h = h
 if_full Unavailable P h = tt
 
@@ -66,12 +70,12 @@ long_leaves r caller request reply told long = reads.by_reply r caller request r
 
 -- ---- what goes out of a reply
 
-pub rendered_goes : (o : Outgoing) (shown : Register → Type 0) (r : Register) (asked : Asked) (reply : DeskReply) → IsRendered o reply → IsTold (exchange r asked).answer reply
+pub rendered_goes : (o : Sent) (shown : Register → Type 0) (r : Register) (asked : Asked) (reply : DeskReply) → IsRendered o reply → IsTold (exchange r asked).answer reply
     → shown (exchange r asked).register → GoesOut o shown r (Ok asked)
 rendered_goes (Full status bytes) shown r asked reply is told left = (answered reply, (reply, told, refl), is.1, is.0, left)
 rendered_goes Unavailable shown r asked reply is told left = subst shown (long_leaves r (caller_of asked.token r) asked.request reply (λ _. told) is) left
 
-pub rendered_keeps : (o : Outgoing) (shown : Register → Type 0) (r : Register) (asked : Asked) (reply : DeskReply) → IsRendered o reply
+pub rendered_keeps : (o : Sent) (shown : Register → Type 0) (r : Register) (asked : Asked) (reply : DeskReply) → IsRendered o reply
     → (IsOrderedFor asked.request r → IsTold (exchange r asked).answer reply) → shown (exchange r asked).register → IfRefusing o (shown r)
 rendered_keeps (Full status bytes) shown r asked reply is told left = λ least.
     subst shown (refused_leaves r (caller_of asked.token r) asked.request reply told (subst (λ n. 400 ≤ n) is.0 least)) left
@@ -84,8 +88,8 @@ said_full said status bytes is are sure = record {
   served = λ e. sure (sym is ∙ e);
 }
 
-pub rendered_status : (o : Outgoing) (reply : DeskReply) → IsRendered o reply → desk_status reply ≢ 503 → HasStatus o
-rendered_status (Full status bytes) reply is sure = said_full (answered reply) status bytes.items is.0 is.1 sure
+pub rendered_status : (o : Sent) (reply : DeskReply) → IsRendered o reply → desk_status reply ≢ 503 → TellsStatus o
+rendered_status (Full status bytes) reply is sure = said_full (answered reply) status bytes is.0 is.1 sure
 rendered_status Unavailable reply is sure = tt
 
 -- no refusal of bytes has status 503
@@ -107,13 +111,13 @@ same_leaves meaning keep IsMade = record { began = λ clean. clean; sound = λ s
 -- ---- whom it is for
 
 -- who is named beside a reply of the desk is so beside what goes out of it
-pub named_beside : (o : Outgoing) (named asks : Option (List ℕ)) → named ≡ asks → IsFor o named asks
+pub named_beside : (o : Sent) (named asks : Option (List ℕ)) → named ≡ asks → IsFor o named asks
 named_beside (Full status bytes) named asks same = same
 named_beside Unavailable None asks same = tt
 named_beside Unavailable (Some name) asks same = sym same
 
 -- nobody is named where no agent asks
-pub nobody_named : (o : Outgoing) → IsFor o None None
+pub nobody_named : (o : Sent) → IsFor o None None
 nobody_named (Full status bytes) = refl
 nobody_named Unavailable = tt
 
@@ -129,11 +133,11 @@ on_any (Some input) P h = λ spelled spells. h spelled
 
 -- ---- the refusal that an input spells
 
-pub is_that : (o : Outgoing) (refusal why : Refusal) (stated : Spelled) → IsRefusal o refusal → stated ≡ Err refusal → stated ≡ Err why → IsRefusal o why
+pub is_that : (o : Sent) (refusal why : Refusal) (stated : Spelled) → IsRefusal o refusal → stated ≡ Err refusal → stated ≡ Err why → IsRefusal o why
 is_that o refusal why stated h is other = let same : refusal ≡ why = cc in subst (IsRefusal o) same h
 
 -- a refusal goes out for what is refused so, and leaves what was shown
-pub refusal_goes : (o : Outgoing) (shown : Register → Type 0) (r : Register) (why : Refusal) → IsRefusal o why → shown r → GoesOut o shown r (Err why)
+pub refusal_goes : (o : Sent) (shown : Register → Type 0) (r : Register) (why : Refusal) → IsRefusal o why → shown r → GoesOut o shown r (Err why)
 refusal_goes (Full status bytes) shown r why h is = (refused why, refl, h.1, h.0, is)
 refusal_goes Unavailable shown r why h is = is
 
@@ -143,7 +147,7 @@ on_spelled_so (Some input) P Q so h = λ spelled spells. so spelled (h spelled s
 
 -- ---- what goes out where the keep was asked nothing
 
-pub refusal_goes_out : {K W : Type 0} (meaning : Meaning K Register W StoreFault) (keep : K) (o : Outgoing) (why : Refusal) → IsRefusal o why → HasStatus o
+pub refusal_goes_out : {K W : Type 0} (meaning : Meaning K Register W StoreFault) (keep : K) (o : Sent) (why : Refusal) → IsRefusal o why → TellsStatus o
     → GoesOutFor meaning keep keep None o (Err why)
 refusal_goes_out meaning keep o why h sure = record {
   leaves = same_leaves meaning keep (λ r left. meaning.left_shows left r);
