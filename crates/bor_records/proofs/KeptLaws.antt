@@ -1,6 +1,5 @@
 -- One read after another.
-use Rattle.std.proofs.Common.{inl, inr}
-use Rattle.bor_records.specs.Promises.{Kept, Leaves, Meaning, StaysClean}
+use Rattle.bor_records.specs.Promises.{Kept, Meaning, StaysClean}
 
 pub kept_then : {S V W F : Type 0} (meaning : Meaning S V W F) (a b c : S) →
     Kept meaning a b → Kept meaning b c → Kept meaning a c
@@ -9,18 +8,6 @@ kept_then meaning a b c p q = record {
   same = λ clean v. (λ is. (q.same clean v).0 ((p.same (q.began clean) v).0 is), λ is. (p.same (q.began clean) v).1 ((q.same clean v).1 is));
   sound = λ sound. p.sound (q.sound sound);
   stops = λ sound left may. p.stops (q.sound sound) left (q.stops sound left may);
-}
-
--- A promise on each value that was shown may be made of another one.
-pub leaves_so : {S V W F : Type 0} (meaning : Meaning S V W F) (a b : S) (IsMade IsSo : V → W → Type 0) →
-    (meaning.is_clean a → (v : V) → meaning.shows a v → (left : W) → IsMade v left → IsSo v left) → Leaves meaning a b IsMade → Leaves meaning a b IsSo
-leaves_so meaning a b IsMade IsSo so leaves = record {
-  began = leaves.began;
-  sound = leaves.sound;
-  stops = λ sound left may. elim (leaves.stops sound left may) [
-    | inl h ↦ inl h
-    | inr h ↦ inr (h.0, λ v is. so h.0 v is left (h.1 v is))
-  ];
 }
 
 -- what is asked of no call

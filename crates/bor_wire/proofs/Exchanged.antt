@@ -17,7 +17,7 @@ use Rattle.bor_wire.specs.Exchanges.{GoesOut, IfAsked, IfRefused, IfRefusing, Is
 use Rattle.bor_wire.proofs.OnSpelling.Messages.{one_spelling}
 use Rattle.bor_wire.proofs.HistoryLaws.{alone}
 use Rattle.bor_wire.proofs.ReportLaws.{exact}
-use Rattle.bor_wire.proofs.Responses.{asked_all, asked_so, asks_nothing, on_any, on_spelled_so, on_this, same_leaves}
+use Rattle.bor_wire.proofs.Responses.{asked_all, asked_so, on_any, on_spelled_so, on_this, same_leaves}
 
 pub some_status : (a b : ℕ) → Some a ≡ Some b → a ≡ b
 some_status a b e = cc
@@ -60,20 +60,6 @@ unasked meaning keep known = record {
   refused = on_refusals known _ (λ why other. absurd (other refl));
   spells = λ other. absurd (other refl);
 }
-
-pub read_failed : {K W : Type 0} (meaning : Meaning K Register W StoreFault) (keep : K) (known held holds : Option (List ℕ)) → Keeps held holds
-    → AnswersOne meaning keep keep ReadFailed known held holds
-read_failed meaning keep known held holds keeps = record {
-  leaves = same_leaves meaning keep (ShowsAfter meaning.left_shows known);
-  exchanged = λ r is clean ordered. unread (meaning.shows keep) r known held holds is keeps;
-  refused_kept = λ r is clean. is;
-  up = on_any known _ (λ spelled. asks_nothing spelled);
-  unavailable = keeps;
-  refused = on_refusals known _ (λ why. keeps);
-  spells = tt;
-}
-
--- ---- what goes out for what an input spells goes out for the input
 
 leaves_so : {K W : Type 0} (meaning : Meaning K Register W StoreFault) (old new : K) (known : Option (List ℕ)) (s : Spelled) → IsSpelled known s
     → Leaves meaning old new (λ r left. meaning.left_shows left (after r s)) → Leaves meaning old new (ShowsAfter meaning.left_shows known)

@@ -34,11 +34,6 @@ pub spelled_known : (known : Option (List ℕ)) (read : Result Message Refusal) 
 spelled_known None read h = tt
 spelled_known (Some input) read h = message_spelled input read h
 
--- nothing has to hold
-pub asks_nothing : (s : Spelled) → IfAsked s (Unit {0})
-asks_nothing (Ok asked) = tt
-asks_nothing (Err why) = tt
-
 -- what holds whatever is spelled
 pub asked_all : (P : Type 0) (s : Spelled) → P → IfAsked s P
 asked_all P (Ok asked) h = h
