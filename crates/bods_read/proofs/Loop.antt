@@ -1,6 +1,6 @@
 -- Reading the items of a list one after the other.
 use Rattle.std.proofs.Common.{◌≡◌, ℕ, ◌+◌, ◌<◌, ◌≤◌, List, [], ◌∷◌, ◌++◌, length, drop, get_or, map, Result, Ok, Err, refl, sym, ap, ◌∙◌, append_assoc}
-use Rattle.std.proofs.lemmas.List.{append-nil, drop_all, drop_more}
+use Rattle.std.proofs.lemmas.List.{drop_more}
 use Rattle.bods_read.specs.Outcome.{outcome, lines_from}
 
 -- the outcome of items, after what was read before
@@ -28,7 +28,3 @@ pub ends : {V D F X : Type 0} (view : V → D) (lines : ℕ → D → List F) (i
     → outcome (lines place (view v)) (item (view v)) ≡ Err f → total ≡ rest view lines item place front (drop i vs) → total ≡ Err f
 ends view lines item place front vs i v f total lt is err so_far =
     so_far ∙ rw (split vs i v lt is) (outcome_err (lines place (view v)) (lines_from lines (place + 1) (map view (drop (i + 1) vs))) (item (view v)) _ f err)
-
-pub is_done : {V D F X : Type 0} (view : V → D) (lines : ℕ → D → List F) (item : D → X) (place : ℕ) (front : List X) (vs : List V) (i : ℕ) (total : Result (List X) F) → length vs ≤ i
-    → total ≡ rest view lines item place front (drop i vs) → total ≡ Ok front
-is_done view lines item place front vs i total le so_far = so_far ∙ rw (drop_all i vs le) (ap Ok (append-nil front))

@@ -30,10 +30,12 @@ pub fn find_or_set_up<S: Alter + Drop>(
             register,
             origin: Origin::Found,
         }),
-        Err(Refused {
-            fault: OpenFault::NoRegister,
-            conn,
-        }) => set_up_on(alloc, conn, registrar, day),
+        Err(
+            Refused {
+                fault: OpenFault::NoRegister,
+                conn,
+            },
+        ) => set_up_on(alloc, conn, registrar, day),
         Err(refused) => Err(refused.fault),
     }
 }

@@ -1,6 +1,6 @@
 -- Facts that follow on a run from the output of the command that it performed.
 use Rattle.bor_records.specs.Promises.{Meaning}
-use Rattle.std.proofs.Common.{◌≡◌, ℕ, List, Bool, Option, Some, None, IsSome, IsTrue, ◌∙◌, arith, inl, inr, refl, sym, subst, true, false, if◌then◌else◌}
+use Rattle.std.proofs.Common.{◌≡◌, ℕ, List, Bool, IsSome, IsTrue, ◌∙◌, arith, inl, inr, refl, sym, subst, true, false, if◌then◌else◌}
 use Rattle.std.specs.Borrow.{Bor}
 use Rattle.std.specs.Io.KnownBytes.{Keeps}
 use Rattle.clap.specs.Words.{Text as Words}
@@ -16,32 +16,16 @@ use Rattle.bor_words.specs.declared.command.Command.{Command}
 use Rattle.bor_words.specs.declared.command.Command.TheVariants.{Check, Init, Exchange, Serve, Report, Migrate}
 use Rattle.bor_words.specs.declared.init.Init.{Init as AskedInit}
 use Rattle.bor_words.specs.declared.serve.Serve.{Serve as Asked}
-use Rattle.bor_words.specs.declared.source.Source.{Source}
-use Rattle.bor_words.specs.Asked.{EntersCheck, IsAsked, IsCommand, name_of}
-use Rattle.bor_words.specs.Words.{Entered, entered_by, file_at}
-use Rattle.bor_program.specs.Performing.{Checks, EndsSettingUp, Exchanges, InitsOnceTold, IsDoneOrFailed, Performs, Serves, PrintsRefusal, System, migrated}
+use Rattle.bor_words.specs.Asked.{IsAsked}
+use Rattle.bor_words.specs.Words.{Entered, file_at}
+use Rattle.bor_program.specs.Performing.{EndsSettingUp, Exchanges, InitsOnceTold, IsDoneOrFailed, Performs, Serves, PrintsRefusal, System, migrated}
 use Rattle.bor_program.specs.declared.host.Origin.{Origin}
 use Rattle.bor_program.specs.declared.host.Origin.TheVariants.{Found, New}
 use Rattle.bor_program.specs.declared.registrar.Exchanging.{Exchanging}
 use Rattle.bor_program.specs.Program.{IsWrittenOrCutOff, report_status}
 use Rattle.bor_program.specs.Streams.{Known, Streams, TakesAtMostPart}
-use Rattle.bor_program.specs.Words.{AsksForCheck}
 use Rattle.bor_program.proofs.KnownBytes.{took_none}
 use Rattle.bor_program.proofs.Replies.{no_usage, replies_end}
-
-no_rows : {A : Type 0} (o : Option A) (x : A) → o ≡ None → o ≡ Some x → ⊥
-no_rows o x e f = cc
-
--- where no other command is entered, a check was performed
-pub checked : {M K Left : Type 0} (system : System K Left) (files : Course M (Deed K)) (asked : Command) (entered : Entered) (input rest : Known) (streams : Streams) → IsAsked entered asked → EntersCheck entered
-    → Performs system files asked input rest streams
-    → (source : Source) × (name_of source ≡ file_at entered) × Checks system.reads source input rest streams
-checked system files (Check source) entered input rest streams h e p = (source, h.1, p.1)
-checked system files (Init asked) entered input rest streams h e p = absurd (no_rows _ h.0 e.4 h.1)
-checked system files (Exchange asked) entered input rest streams h e p = absurd (no_rows _ h.0 e.0 h.1)
-checked system files (Serve asked) entered input rest streams h e p = absurd (no_rows _ h.0 e.1 h.1)
-checked system files (Report asked) entered input rest streams h e p = absurd (no_rows _ h.0 e.2 h.1)
-checked system files (Migrate asked) entered input rest streams h e p = absurd (no_rows _ h.0 e.3 h.1)
 
 -- where a file is named, standard input is left alone
 pub unread : {M K Left : Type 0} (system : System K Left) (files : Course M (Deed K)) (asked : Command) (entered : Entered) (input rest : Known) (streams : Streams) → IsAsked entered asked → IsSome (file_at entered)
@@ -61,16 +45,6 @@ took system files (Exchange asked) input rest streams p = took_none input rest p
 took system files (Serve asked) input rest streams p = took_none input rest p.0
 took system files (Report asked) input rest streams p = took_none input rest p.0
 took system files (Migrate asked) input rest streams p = took_none input rest p.0
-
--- where no check is asked for, standard input is left alone
-pub untaken : {M K Left : Type 0} (system : System K Left) (files : Course M (Deed K)) (asked : Command) (words : List (List ℕ)) (input rest : Known) (streams : Streams) → IsCommand words
-    → IsAsked (entered_by words) asked → ¬ AsksForCheck words → Performs system files asked input rest streams → Keeps input rest
-untaken system files (Check source) words input rest streams ok h unasked p = absurd (unasked (ok, h.0))
-untaken system files (Init asked) words input rest streams ok h unasked p = p.0
-untaken system files (Exchange asked) words input rest streams ok h unasked p = p.0
-untaken system files (Serve asked) words input rest streams ok h unasked p = p.0
-untaken system files (Report asked) words input rest streams ok h unasked p = p.0
-untaken system files (Migrate asked) words input rest streams ok h unasked p = p.0
 
 refuses : (refused : Bool) → 1 ≡ report_status refused → IsTrue refused
 refuses true e = refl

@@ -14,10 +14,9 @@
 //! ```
 //!
 //! Each keep of members calls the functions here on them, wherever it gets them from: who has a
-//! token ([`caller_with`]), filings and their lines, live statements ([`last_live`],
-//! [`any_live_has_id`]), the rows that a viewer sees, what is published, and how much of it each
-//! agent has ([`all_agents`]). What a keep of a
-//! register promises stands in [`keeping`].
+//! token ([`caller_with`]), filings and their lines, the rows that a viewer sees, what is published,
+//! and how much of it each agent has ([`all_agents`]). What a keep of a register promises stands in
+//! [`keeping`].
 #![tactic(auto)]
 
 mod agents;
@@ -28,7 +27,6 @@ mod filings;
 mod held;
 pub mod keeping;
 pub mod laws;
-mod live;
 mod member;
 mod publication;
 mod rows;
@@ -41,7 +39,6 @@ pub use fault::StoreFault;
 pub use filing::{AcceptedFiling, Filing, FilingLine, Outward, State};
 pub use filings::{all_lines, filing_under, is_filed, line_under};
 pub use held::statement_count;
-pub use live::{any_live_has_id, last_live};
 pub use member::{
     Member, caller_with, enrol_member, is_enrolled, own_filings, push_filing, renew_token,
     withdraw_of,
@@ -49,4 +46,3 @@ pub use member::{
 pub use publication::all_published;
 pub use rows::{all_visible, row_of, rows_seen};
 pub use statements::known;
-pub use withdrawal::is_succeeded;

@@ -26,10 +26,7 @@ use bor_program::connections::{Limits, Places};
 use bor_program::log::{Asked, Moment, Note, asked_by};
 use bor_records::links::{Class, OpenNode, holding_of, stake_of};
 use bor_records::{Last, RecordFault, Row, admit, latest};
-use bor_register::{
-    Member, any_live_has_id, enrol_member, is_enrolled, is_filed, is_succeeded, last_live,
-    own_filings, withdraw_of,
-};
+use bor_register::{Member, enrol_member, is_enrolled, is_filed, own_filings, withdraw_of};
 use bor_terms::{AgentName, Day, Ident, Listed, LodgeKey, Span, Token};
 use bor_wire::rendering::{
     RESERVED, desk_status, is_long, refusal_status, render_refusal, render_short,
@@ -328,18 +325,7 @@ fn are_agents_told(members: &[Member], named: &Names) -> bool {
 
 fn are_filings_told(members: &[Member], named: &Names) -> bool {
     let own = own_filings(members, &named.alder);
-    own.len() == 1
-        && !is_succeeded(own, 1)
-        && is_filed(own, &named.f1, b"[]")
-        && !is_filed(own, &named.f1, b"[ ]")
-}
-
-// The last of the live statements of e1 is the one that was filed.
-fn are_live_told(members: &[Member], named: &Names, last: Last) -> bool {
-    let own = own_filings(members, &named.alder);
-    any_live_has_id(own, &named.s1)
-        && !any_live_has_id(own, &named.e1)
-        && last_live(own, &named.c1, &named.e1) == Some(last)
+    own.len() == 1 && is_filed(own, &named.f1, b"[]") && !is_filed(own, &named.f1, b"[ ]")
 }
 
 fn is_filing_withdrawn(alloc: Global, members: &mut [Member], named: &Names) -> bool {
@@ -352,19 +338,12 @@ fn is_filing_withdrawn(alloc: Global, members: &mut [Member], named: &Names) -> 
 fn agents_and_filings(rt: HostRuntime) {
     let alloc = rt.alloc();
     let (today, due) = (day(&rt, "2024-02-01"), day(&rt, "2024-02-02"));
-    let last = Last {
-        kind: RecordType::Entity,
-        status: Status::New,
-        day: day(&rt, "2024-01-10"),
-        due,
-    };
     let named = named(&rt, alloc);
     let mut members = members_of_alder(&rt, alloc, &named.alder, due);
     let marks = begin(&rt);
     let told = [
         are_agents_told(&members, &named),
         are_filings_told(&members, &named),
-        are_live_told(&members, &named, last),
         State::of_live(due, today) == State::Draft,
         is_filing_withdrawn(alloc, &mut members, &named),
     ];

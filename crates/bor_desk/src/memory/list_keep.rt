@@ -33,9 +33,9 @@ use bor_records::{Last, Row};
 use bor_register::keeping::Keep;
 use bor_register::{
     AcceptedFiling, AgentLine, Caller, Filing, FilingLine, Member, Outward, StoreFault, all_agents,
-    all_lines, all_published, all_visible, any_live_has_id, caller_with, enrol_member,
-    filing_under, is_enrolled, is_filed, is_succeeded, last_live, line_under, own_filings,
-    push_filing, renew_token, rows_seen, statement_count, withdraw_of,
+    all_lines, all_published, all_visible, caller_with, enrol_member, filing_under, is_enrolled,
+    is_filed, line_under, own_filings, push_filing, renew_token, rows_seen, statement_count,
+    withdraw_of,
 };
 use bor_terms::{AgentName, Day, Ident, LodgeKey, Token};
 use std::alloc::{AllocError, Global};
@@ -46,9 +46,8 @@ use std::marker::Model;
 ///
 /// Maps beside the filings (`Index`) follow each change, so what is asked of a record is read by
 /// its key, and a report takes what it meets. Where memory is wanting for them while a filing is
-/// added, it isn't added and they are let go. They are made again where an open record, a node or
-/// links are asked for; until then statements are looked for one by one. An addition that doesn't
-/// fit the register is answered as want of memory, too, and changes nothing.
+/// added, it isn't added and they are let go. They are made again where they are asked for next. An
+/// addition that doesn't fit the register is answered as want of memory, too, and changes nothing.
 #[derive(Drop)]
 pub struct ListKeep {
     alloc: Global,
@@ -276,43 +275,51 @@ impl ListKeep {
         told
     }
 
-    fn last_of(&self, agent: &AgentName, declaration: &Ident, rec: &Ident) -> Option<Last>
-        ensures { result ≡ last_of declaration.now rec.now
-            (live_of (filings_of agent.now self.now.register.members)) }
+    fn last_of(
+        &mut self,
+        agent: &AgentName,
+        declaration: &Ident,
+        rec: &Ident,
+    ) -> Result<Option<Last>, AllocError>
+        ensures kept { self.new ≡ self.old }
+        ensures told { IfOk result (λ last. last ≡ last_of declaration.now rec.now
+            (live_of (filings_of agent.now self.old.register.members))) }
     {
+        let node = node_named(self.alloc, agent, declaration, rec)?;
+        let index = self.take_maps()?;
         let filings = own_filings(&self.members, agent);
-        if let Some(index) = &self.index {
-            if let Ok(node) = node_named(self.alloc, agent, declaration, rec) {
-                return last_known(filings, index.places_of(&node), &node);
-            }
-        }
-        last_live(filings, declaration, rec)
+        let told = last_known(filings, index.places_of(&node), &node);
+        self.put_maps(index);
+        Ok(told)
     }
 
-    fn has_id(&self, agent: &AgentName, id: &Ident) -> bool
-        ensures { result ≡ has_id id.now
-            (live_of (filings_of agent.now self.now.register.members)) }
+    fn has_id(&mut self, agent: &AgentName, id: &Ident) -> Result<bool, AllocError>
+        ensures kept { self.new ≡ self.old }
+        ensures told { IfOk result (λ has. has ≡ has_id id.now
+            (live_of (filings_of agent.now self.old.register.members))) }
     {
-        let filings = own_filings(&self.members, agent);
-        if let Some(index) = &self.index {
-            if let Ok(key) = key_named(self.alloc, agent, id) {
-                return any_stands(filings, index.places_named(&key), &key);
-            }
-        }
-        any_live_has_id(filings, id)
+        let key = key_named(self.alloc, agent, id)?;
+        let index = self.take_maps()?;
+        let told = any_stands(
+            own_filings(&self.members, agent),
+            index.places_named(&key),
+            &key,
+        );
+        self.put_maps(index);
+        Ok(told)
     }
 
     // Whether a later filing of the agent stands on the one with this number.
-    fn is_followed(&self, agent: &AgentName, number: u32) -> bool
-        ensures { result ≡ has_successor number (filings_of agent.now self.now.register.members) }
+    fn is_followed(&mut self, agent: &AgentName, number: u32) -> Result<bool, AllocError>
+        ensures kept { self.new ≡ self.old }
+        ensures told { IfOk result (λ has. has
+            ≡ has_successor number (filings_of agent.now self.old.register.members)) }
     {
+        let index = self.take_maps()?;
         let filings = own_filings(&self.members, agent);
-        if let Some(index) = &self.index {
-            if let Ok(has) = succession::has_successor(self.alloc, index, agent, filings, number) {
-                return has;
-            }
-        }
-        is_succeeded(filings, number)
+        let told = succession::has_successor(self.alloc, &index, agent, filings, number);
+        self.put_maps(index);
+        told
     }
 
     // Whether the agent is enrolled and has room for one more filing.
@@ -323,23 +330,22 @@ impl ListKeep {
         is_enrolled(&self.members, agent) && own_filings(&self.members, agent).len() < FILINGS_LIMIT
     }
 
-    // The maps with a filing that is to be added to an agent's, where there is memory for it. They
-    // are taken out.
-    fn take_index(&mut self, agent: &AgentName, statements: &[Statement]) -> Option<Index>
+    // The maps with a filing that is to be added to an agent's. They are taken out.
+    fn take_grown(
+        &mut self,
+        agent: &AgentName,
+        statements: &[Statement],
+    ) -> Result<Index, AllocError>
         ensures kept { self.new ≡ self.old }
-        ensures grown { IfSome result (λ index. (f : AcceptedFiling) → f.statements ≡ statements.now
+        ensures grown { IfOk result (λ index. (f : AcceptedFiling) → f.statements ≡ statements.now
             → is_enrolled agent.now self.old.register.members ≡ true
             → IsIndex (with_filings agent.now
             (filings_of agent.now self.old.register.members ++ f ∷ [])
             self.old.register.members) index) }
     {
         let filing = own_filings(&self.members, agent).len();
-        match self.index.take() {
-            Some(index) => index
-                .with_filing(self.alloc, agent, filing, statements)
-                .ok(),
-            None => None,
-        }
+        let index = self.take_maps()?;
+        index.with_filing(self.alloc, agent, filing, statements)
     }
 
     fn want_of_memory(&mut self) -> StoreFault
@@ -496,15 +502,18 @@ impl Keep for ListKeep {
         declaration: &Ident,
         rec: &Ident,
     ) -> Result<Option<Last>, StoreFault> {
-        Ok(self.last_of(agent, declaration, rec))
+        let last = self.last_of(agent, declaration, rec);
+        self.told(last)
     }
 
     fn has_statement(&mut self, agent: &AgentName, id: &Ident) -> Result<bool, StoreFault> {
-        Ok(self.has_id(agent, id))
+        let has = self.has_id(agent, id);
+        self.told(has)
     }
 
     fn has_successor(&mut self, agent: &AgentName, number: u32) -> Result<bool, StoreFault> {
-        Ok(self.is_followed(agent, number))
+        let is_followed = self.is_followed(agent, number);
+        self.told(is_followed)
     }
 
     fn rows_of(
@@ -599,11 +608,9 @@ impl Keep for ListKeep {
         if !self.has_room(agent) {
             return Err(self.want_of_memory());
         }
-        let had_index = self.index.is_some();
-        let index = self.take_index(agent, statements);
-        if had_index && index.is_none() {
+        let Ok(index) = self.take_grown(agent, statements) else {
             return Err(self.want_of_memory());
-        }
+        };
         match push_filing(
             self.alloc,
             &mut self.members,
@@ -614,7 +621,7 @@ impl Keep for ListKeep {
             statements,
         ) {
             Ok(number) => {
-                self.index = index;
+                self.index = Some(index);
                 Ok(number)
             }
             Err(_) => Err(self.want_of_memory()),

@@ -15,8 +15,8 @@ returns c entity =
     let n : Node = c.args.node.now in
     let known = sym c.is_node.ensures ∙ c.if-not-is_node.false in
     rw c.rec.view_is (
-      subst (λ (m : Node).
-          let link : Link = record { rec = c.args.rec; party = c.args.party; subject = m; stake = c.stake_of.result; holding = c.holding_of.result } in
-          Some link ≡ only_into n (link_between sight.day nodes c.args.rec c.args.party n c.args.interests.now)) (sym c.in_ok-copy.ensures)
-      (link_is sight.day nodes c.args.rec n c.args.party n c.args.interests.now c.stake_of.result c.holding_of.result (node_equiv.refl n) entity known c.stake_of.ensures c.holding_of.ensures)
+    subst (λ (m : Node).
+    let link : Link = record { rec = c.args.rec; party = c.args.party; subject = m; stake = c.stake_of.result; holding = c.holding_of.result } in
+    Some link ≡ only_into n (link_between sight.day nodes c.args.rec c.args.party n c.args.interests.now)) (sym c.in_ok-copy.ensures)
+    (link_is sight.day nodes c.args.rec n c.args.party n c.args.interests.now c.stake_of.result c.holding_of.result (node_equiv.refl n) entity known c.stake_of.ensures c.holding_of.ensures)
     )

@@ -19,8 +19,8 @@ named_link : (day : ℤ) (nodes : List OpenNode) (n : Node) (agent declaration s
 named_link day nodes n agent declaration subject party rec interests link same is =
     let named : Node = record { agent = agent; declaration = declaration; rec = subject } in
     subst (λ (m : Node).
-        let from : Node = record { agent = m.agent; declaration = m.declaration; rec = party } in
-        link ≡ only_into n (link_between day nodes rec from m interests)) (same_node_is n named same) is
+    let from : Node = record { agent = m.agent; declaration = m.declaration; rec = party } in
+    link ≡ only_into n (link_between day nodes rec from m interests)) (same_node_is n named same) is
 
 pub returns-in_ok-rec-in-Relationship-Some-Some-default : goal.returns-in_ok-rec-in-Relationship-Some-Some-default
 returns-in_ok-rec-in-Relationship-Some-Some-default c = told_then c.link_from.result _ _ (λ link h entity.
