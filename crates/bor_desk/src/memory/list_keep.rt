@@ -300,11 +300,8 @@ impl ListKeep {
     {
         let key = key_named(self.alloc, agent, id)?;
         let index = self.take_maps()?;
-        let told = any_stands(
-            own_filings(&self.members, agent),
-            index.places_named(&key),
-            &key,
-        );
+        let filings = own_filings(&self.members, agent);
+        let told = any_stands(filings, index.places_named(&key), &key);
         self.put_maps(index);
         Ok(told)
     }
