@@ -42,7 +42,7 @@ ExchangesCompose {K} shows =
     (run : IsRun (shows (keep_left keep exchanges)) r exchanges)
     (more : IsRun (shows (keep_left next others)) (register_left r run.spelled) others) →
     (both : IsRun (shows (keep_left next others)) r (exchanges ++ others))
-    × (both.spelled ≡ run.spelled ++ more.spelled) × (both.sent ≡ run.sent ++ more.sent)
+    × (both.spelled ≡ run.spelled ++ more.spelled)
 
 -- ---- an agent's filings
 
