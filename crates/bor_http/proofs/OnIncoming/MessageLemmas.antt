@@ -1,8 +1,8 @@
 -- The reading of the whole input, from what was read of it.
-use Rattle.std.proofs.Common.{◌≡◌, ◌≤◌, ◌<◌, length, drop, take, ℕ, ◌-◌, List, ◌++◌, refl, sym, ap, ◌∙◌, arith, false, true, Bool, cond, subst, Option, Some, None, Result, Ok, Err, nat_lt, nat_le, min, not, length-append, codes, take-append-drop}
+use Rattle.std.proofs.Common.{◌≡◌, ◌≤◌, ◌<◌, length, drop, take, ℕ, ◌-◌, List, ◌++◌, refl, sym, ap, ◌∙◌, arith, false, true, Bool, cond, subst, Option, Some, None, Result, Ok, Err, nat_lt, nat_le, min, not, codes, take-append-drop}
 use Rattle.std.specs.Option.{option_map_or}
 use Rattle.std.specs.Str.Parse.{digits_value}
-use Rattle.std.proofs.lemmas.List.{take-append-le, length-take, length-take-le, length-drop, take_all, take_min}
+use Rattle.std.proofs.lemmas.List.{length-take, length-take-le, length-drop, take_all, take_min}
 use Rattle.std.proofs.lemmas.Bool.Decides.{nat_tests}
 use Rattle.std.proofs.Math.Seq.{take-append_seam, drop-append_seam}
 use Rattle.bor_http.specs.declared.incoming.fault.Refusal.{Refusal}
@@ -37,14 +37,6 @@ not_less a b le = grind (arith, nat_tests)
 
 pub body_there : (parts : Parts) (behind : List ℕ) (len : ℕ) → len ≤ length behind → body_of parts behind len ≡ Ok (record { parts = parts; body = take len behind })
 body_there parts behind len le = rw (not_less (length behind) len le) refl
-
-pub body_whole : (parts : Parts) (body rest : List ℕ) (len : ℕ) → len ≤ length body
-    → body_of parts (body ++ rest) len ≡ Ok (record { parts = parts; body = take len body })
-body_whole parts body rest len le =
-    let f : nat_lt (length (body ++ rest)) len ≡ false = not_less (length (body ++ rest)) len (omega (arith, length-append body rest)) in
-    rw (f, take-append-le len body rest le) refl
-
--- ---- an input, part by part
 
 -- the front that is looked through for a head
 pub front_is : (input : List ℕ) (k : ℕ) → k ≡ min head_limit (length input) → take head_limit input ≡ take k input
