@@ -1,7 +1,7 @@
 -- One read after another, and what is made of what was read.
 use Rattle.std.proofs.Common.{◌≡◌, sym, subst, Result, Ok, Err, IfOk, MatchResult}
 use Rattle.std.specs.Prelude.{IsErrAnd}
-use Rattle.bor_records.specs.Reading.{Finds, GoesOn, Reading}
+use Rattle.bor_records.specs.Reading.{ReadsSo, IsReading, Reading}
 
 -- an error says nothing of it
 not_answered : {X Y : Type 0} (P : Type 0) (Q : Y → Type 0) (result : Result X Y) → IsErrAnd result Q → IfOk result (λ x. P)
@@ -22,19 +22,19 @@ after (Err e) so a = tt
 
 module _ {S V F : Type 0} {r : Reading S V F} where
   -- without a read
-  pub unread : {X : Type 0} {s : S} {x : X} {P : V → X → Type 0} → GoesOn r → ((v : V) → P v x) → Finds r s s (Ok x) P
+  pub unread : {X : Type 0} {s : S} {x : X} {P : V → X → Type 0} → IsReading r → ((v : V) → P v x) → ReadsSo r s s (Ok x) P
   unread {X} {s} on so = record { leads = on.none s; lasts = on.lasts_none s; answer = λ clean v shown. so v }
 
   -- another value is made of what was read
-  pub read_so : {X Y : Type 0} {old new : S} {x : X} {y : Y} {P : V → X → Type 0} {Q : V → Y → Type 0} → Finds r old new (Ok x) P → ((v : V) → P v x → Q v y) → Finds r old new (Ok y) Q
+  pub read_so : {X Y : Type 0} {old new : S} {x : X} {y : Y} {P : V → X → Type 0} {Q : V → Y → Type 0} → ReadsSo r old new (Ok x) P → ((v : V) → P v x → Q v y) → ReadsSo r old new (Ok y) Q
   read_so was so = record { leads = was.leads; lasts = was.lasts; answer = λ clean v shown. so v (was.answer clean v shown) }
 
   -- an answer in other words
-  pub read_as : {X : Type 0} {old new : S} {result : Result X F} {P Q : V → X → Type 0} → Finds r old new result P → ((v : V) (x : X) → P v x → Q v x) → Finds r old new result Q
+  pub read_as : {X : Type 0} {old new : S} {result : Result X F} {P Q : V → X → Type 0} → ReadsSo r old new result P → ((v : V) (x : X) → P v x → Q v x) → ReadsSo r old new result Q
   read_as {X} {old} {new} {result} {P} {Q} was so = record { leads = was.leads; lasts = was.lasts; answer = λ clean v shown. answered r.may_tell result (P v) (Q v) (so v) (was.answer clean v shown) }
 
   -- what was read first is so too
-  pub read_next : {X Y : Type 0} {old mid new : S} {x : X} {result : Result Y F} {P : V → X → Type 0} {Q : V → Y → Type 0} → GoesOn r → Finds r old mid (Ok x) P → Finds r mid new result Q → Finds r old new result (λ v y. P v x × Q v y)
+  pub read_next : {X Y : Type 0} {old mid new : S} {x : X} {result : Result Y F} {P : V → X → Type 0} {Q : V → Y → Type 0} → IsReading r → ReadsSo r old mid (Ok x) P → ReadsSo r mid new result Q → ReadsSo r old new result (λ v y. P v x × Q v y)
   read_next {X} {Y} {old} {mid} {new} {x} {result} {P} {Q} on first second = record {
     leads = on.more old mid new first.leads second.leads;
     lasts = after result (on.lasts_more old mid new second.leads first.lasts) second.lasts;
@@ -45,7 +45,7 @@ module _ {S V F : Type 0} {r : Reading S V F} where
   }
 
   -- the fault of a read is handed on
-  pub read_fails : {X Y : Type 0} {P : V → X → Type 0} {Q : V → Y → Type 0} {old new : S} {error : F} {result : Result Y F} → IsErrAnd result (λ e. e ≡ error) → Finds r old new (Err error) P → Finds r old new result Q
+  pub read_fails : {X Y : Type 0} {P : V → X → Type 0} {Q : V → Y → Type 0} {old new : S} {error : F} {result : Result Y F} → IsErrAnd result (λ e. e ≡ error) → ReadsSo r old new (Err error) P → ReadsSo r old new result Q
   read_fails {X} {Y} {P} {Q} {old} {new} {error} {result} told was = record {
     leads = was.leads;
     lasts = not_answered _ _ result told;
@@ -53,7 +53,7 @@ module _ {S V F : Type 0} {r : Reading S V F} where
   }
 
   -- memory is wanting
-  pub read_wants : {X Y : Type 0} {P : V → X → Type 0} {Q : V → Y → Type 0} {old new : S} {x : X} {result : Result Y F} (Told : F → Type 0) → ((e : F) → Told e → r.may_tell e) → IsErrAnd result Told → Finds r old new (Ok x) P → Finds r old new result Q
+  pub read_wants : {X Y : Type 0} {P : V → X → Type 0} {Q : V → Y → Type 0} {old new : S} {x : X} {result : Result Y F} (Told : F → Type 0) → ((e : F) → Told e → r.may_tell e) → IsErrAnd result Told → ReadsSo r old new (Ok x) P → ReadsSo r old new result Q
   read_wants {X} {Y} {P} {Q} {old} {new} {x} {result} Told tells told was = record {
     leads = was.leads;
     lasts = not_answered _ _ result told;

@@ -15,7 +15,7 @@ pub record Reading (S V F : Type 0) : Type 1 where
   pub may_tell : F → Type 0
 
 -- Reads one after another are as one. They leave what is shown, and what ends clean began clean.
-pub record GoesOn {S V F : Type 0} (reading : Reading S V F) : Type 0 where
+pub record IsReading {S V F : Type 0} (reading : Reading S V F) : Type 0 where
   pub none : (a : S) → reading.leads a a
   pub more : (a b c : S) → reading.leads a b → reading.leads b c → reading.leads a c
   pub lasts_none : (a : S) → reading.lasts a a
@@ -27,7 +27,7 @@ pub record GoesOn {S V F : Type 0} (reading : Reading S V F) : Type 0 where
 
 -- A read, or reads one after another. Where a value was shown and they end clean, P holds of an
 -- answer, and a fault is one that they may fail with.
-pub record Finds {S V T F : Type 0} (reading : Reading S V F) (old new : S) (result : Result T F)
+pub record ReadsSo {S V T F : Type 0} (reading : Reading S V F) (old new : S) (result : Result T F)
     (P : V → T → Type 0) : Type 0 where
   pub leads : reading.leads old new
   pub lasts : IfOk result (λ x. reading.lasts old new)

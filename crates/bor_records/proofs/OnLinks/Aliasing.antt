@@ -14,7 +14,7 @@ use Rattle.bor_records.specs.declared.links.node.OpenNode.{OpenNode}
 use Rattle.bor_records.specs.declared.links.search.Sought.{Sought}
 use Rattle.bor_records.specs.declared.links.sign.Sign.{Sign}
 use Rattle.bor_records.specs.Links.Aliases.{Alias}
-use Rattle.bor_records.specs.Links.Alike.{Expands, Follows}
+use Rattle.bor_records.specs.Links.Alike.{Expands, FollowsSigns}
 use Rattle.bor_records.specs.Links.Answers.{AreAliases, HaveSigned}
 use Rattle.bor_records.specs.Links.Candidates.{IsFoundIn, is_sought}
 use Rattle.bor_records.specs.Links.Growth.{Grown}
@@ -114,7 +114,7 @@ module _ (s : Shown) (one : OpenNode) where
 
 module _ (s : Shown) (node : Node) where
   -- there is nothing to be asked
-  follows_none : (nodes : List Node) (seen : Sign → Bool) → ((x : OpenNode) → listed_at s.nodes node ≡ Some x → is_entity x.info ≡ true → ⊥) → Follows s node nodes nodes seen seen
+  follows_none : (nodes : List Node) (seen : Sign → Bool) → ((x : OpenNode) → listed_at s.nodes node ≡ Some x → is_entity x.info ≡ true → ⊥) → FollowsSigns s node nodes nodes seen seen
   follows_none nodes seen no_entity = record {
     rest = [];
     begins = sym (append-nil nodes);
@@ -124,10 +124,10 @@ module _ (s : Shown) (node : Node) where
     fresh = λ k h. inl h;
   }
 
-  pub follows_closed : (nodes : List Node) (seen : Sign → Bool) → None ≡ listed_at s.nodes node → Follows s node nodes nodes seen seen
+  pub follows_closed : (nodes : List Node) (seen : Sign → Bool) → None ≡ listed_at s.nodes node → FollowsSigns s node nodes nodes seen seen
   follows_closed nodes seen gone = follows_none nodes seen (λ x at entity. let no : None ≡ Some x = gone ∙ at in cc)
 
-  pub follows_person : (nodes : List Node) (seen : Sign → Bool) (one : OpenNode) → Some one ≡ listed_at s.nodes node → is_entity one.info ≡ false → Follows s node nodes nodes seen seen
+  pub follows_person : (nodes : List Node) (seen : Sign → Bool) (one : OpenNode) → Some one ≡ listed_at s.nodes node → is_entity one.info ≡ false → FollowsSigns s node nodes nodes seen seen
   follows_person nodes seen one is person = follows_none nodes seen
       (λ x at entity. let no : false ≡ true = sym person ∙ ap (λ (y : OpenNode). is_entity y.info) (same_Some one x (is ∙ at)) ∙ entity in cc)
 
@@ -146,7 +146,7 @@ module _ (s : Shown) (node : Node) where
       | inr alike ↦ inr (all y at has alike)
     ]
 
-    pub follows_entity : is_entity one.info ≡ true → Follows s node old new was now
+    pub follows_entity : is_entity one.info ≡ true → FollowsSigns s node old new was now
     follows_entity entity = record {
       rest = x.rest;
       begins = x.begins;
@@ -167,7 +167,7 @@ gathered_start s first node before nodes seen empty is g unseen = record {
 }
 
 pub gathered_more : (s : Shown) (first : Node) (next : ℕ) (node : Node) (a b : List Node) (was now : Sign → Bool) → next < length a → node ≡ get_or a next node → AreGathered s first next a was
-    → Follows s node a b was now → AreGathered s first (next + 1) b now
+    → FollowsSigns s node a b was now → AreGathered s first (next + 1) b now
 gathered_more s first next node a b was now lt at g x = record {
   own = still first g.own;
   sound = λ n h. elim (Contains-append_cases a x.rest n (subst (λ (ns : List Node). Contains ns n) x.begins h)) [

@@ -32,7 +32,7 @@ pub record Expands (s : Shown) (one : OpenNode) (ks : List Sign)
 
 -- Aliases of a node are added. The signs of an open entity have been looked up, and of each that
 -- hadn't been before, all entities that have it are there, but for the node.
-pub record Follows (s : Shown) (node : Node) (old new : List Node)
+pub record FollowsSigns (s : Shown) (node : Node) (old new : List Node)
     (was now : Sign → Bool) : Type 0 where
   pub rest : List Node
   pub begins : new ≡ old ++ rest

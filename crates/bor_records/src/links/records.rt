@@ -2,7 +2,7 @@
 
 ghost use Rattle.std.specs.Prelude.{◌≡◌};
 ghost use Rattle.std.specs.declared.alloc.AllocError.{AllocError};
-ghost use Rattle.bor_records.specs.Reading.{Finds, GoesOn, Reading};
+ghost use Rattle.bor_records.specs.Reading.{ReadsSo, IsReading, Reading};
 ghost use Rattle.bor_records.specs.Links.Answers.{HaveSigned};
 ghost use Rattle.bor_records.specs.Links.Shown.{Shown, listed_at};
 
@@ -14,10 +14,11 @@ use std::convert::AsSlice;
 /// Records of a register, as they stand for a viewer on a day, read by key. They may be in memory,
 /// or in tables over a connection that fails.
 ///
-/// What a state shows is a relation (`reading.shows`), and what is shown has open nodes (`shown`). A
-/// read that ends clean leaves what is shown, and then its answer is of that, and its fault one that
-/// it may answer (`reading.may_tell`). What else it leaves as it was is for those who implement this
-/// to say (`reading.leads`, and `reading.lasts` where it answers): reads one after another do too.
+/// What a state shows is a relation (`reading.shows`), and what is shown has open nodes (`shown`).
+/// A read that ends clean leaves what is shown. Then its answer is of that, and its fault is one
+/// that it may answer (`reading.may_tell`). What else a read leaves as it was, whoever implements
+/// this says (`reading.leads`, and `reading.lasts` where there is an answer), and reads one after
+/// another leave it too.
 pub trait Records {
     /// Why a read had no answer. Want of memory is one such fault.
     type Fault: Drop + From<AllocError>;
@@ -36,16 +37,16 @@ pub trait Records {
 
     /// The node that a record makes, with its identifiers; `None` where it isn't open.
     fn open(&mut self, node: &Node) -> Result<Option<OpenNode>, Self::Fault>
-        ensures { Finds reading self.old self.new result (λ m one.
+        ensures { ReadsSo reading self.old self.new result (λ m one.
             one ≡ listed_at (shown m).nodes node.now) };
 
     /// Records among which are those of all open entities that have a sign.
     fn signed(&mut self, sign: &Sign) -> Result<Self::Nodes, Self::Fault>
-        ensures { Finds reading self.old self.new result (λ m nodes.
+        ensures { ReadsSo reading self.old self.new result (λ m nodes.
             HaveSigned (shown m) sign.now (Self.Nodes.items nodes)) };
 
     /// Reads one after another are as one.
-    ghost goes_on: { GoesOn reading };
+    ghost goes_on: { IsReading reading };
 
     /// A read may fail for want of memory.
     ghost tells_memory: { (error : AllocError) (fault : Self.Fault)

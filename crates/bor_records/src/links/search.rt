@@ -5,8 +5,8 @@ ghost use Rattle.std.specs.Prelude.{◌≡◌, ◌∷◌, [], true, Some, OnOk, 
 ghost use Rattle.std.specs.BTreeSet.{contains};
 ghost use Rattle.std.specs.Ordering.{is_eq};
 ghost use Rattle.bor_records.specs.declared.links.sign.Sign.{Sign};
-ghost use Rattle.bor_records.specs.Reading.{Finds};
-ghost use Rattle.bor_records.specs.Links.Alike.{Expands, Follows};
+ghost use Rattle.bor_records.specs.Reading.{ReadsSo};
+ghost use Rattle.bor_records.specs.Links.Alike.{Expands, FollowsSigns};
 ghost use Rattle.bor_records.specs.Links.Answers.{AreAliases, AreDistinct, AreIdentified, AreSame};
 ghost use Rattle.bor_records.specs.Links.Candidates.{IsFound, IsFoundIn, is_sought};
 ghost use Rattle.bor_records.specs.Links.Growth.{Grown};
@@ -48,7 +48,7 @@ fn is_sought<R: Records>(
     sought: &Sought,
     candidate: &Node,
 ) -> Result<bool, R::Fault>
-    ensures { Finds R.reading records.old records.new result (λ m is.
+    ensures { ReadsSo R.reading records.old records.new result (λ m is.
         is ≡ is_sought sought.now (listed_at (R.shown m).nodes candidate.now)) }
 {
     match records.open(candidate)? {
@@ -65,7 +65,7 @@ fn add_if_sought<R: Records>(
     sought: &Sought,
     candidate: &Node,
 ) -> Result<(), R::Fault>
-    ensures { Finds R.reading records.old records.new result (λ m _.
+    ensures { ReadsSo R.reading records.old records.new result (λ m _.
         Grown (IsFound (R.shown m) sought.now candidate.now) found.old found.new) }
 {
     if found.has(candidate) {
@@ -86,7 +86,7 @@ fn add_sought<R: Records>(
     sought: &Sought,
     candidates: &[Node],
 ) -> Result<(), R::Fault>
-    ensures { Finds R.reading records.old records.new result (λ m _.
+    ensures { ReadsSo R.reading records.old records.new result (λ m _.
         Grown (IsFoundIn (R.shown m) sought.now candidates.now) found.old found.new) }
 {
     for candidate in candidates {
@@ -114,7 +114,7 @@ fn add_signed<R: Records>(
     one: &OpenNode,
     sign: Sign,
 ) -> Result<(), R::Fault>
-    ensures { Finds R.reading records.old records.new result (λ m _.
+    ensures { ReadsSo R.reading records.old records.new result (λ m _.
         Expands (R.shown m) one.now (sign ∷ []) class.old class.new
         (λ k. contains sign_cmp looked.old k) (λ k. contains sign_cmp looked.new k)) }
 {
@@ -142,7 +142,7 @@ fn add_identified<R: Records>(
     one: &OpenNode,
     identifiers: &[Identifier],
 ) -> Result<(), R::Fault>
-    ensures { Finds R.reading records.old records.new result (λ m _.
+    ensures { ReadsSo R.reading records.old records.new result (λ m _.
         Expands (R.shown m) one.now (map by_identifier identifiers.now) class.old class.new
         (λ k. contains sign_cmp looked.old k) (λ k. contains sign_cmp looked.new k)) }
 {
@@ -161,7 +161,7 @@ fn add_signs<R: Records>(
     looked: &mut BTreeSet<Sign>,
     one: &OpenNode,
 ) -> Result<(), R::Fault>
-    ensures { Finds R.reading records.old records.new result (λ m _.
+    ensures { ReadsSo R.reading records.old records.new result (λ m _.
         Expands (R.shown m) one.now (signs one.now) class.old class.new
         (λ k. contains sign_cmp looked.old k) (λ k. contains sign_cmp looked.new k)) }
 {
@@ -185,8 +185,8 @@ fn add_aliases<R: Records>(
     looked: &mut BTreeSet<Sign>,
     node: &Node,
 ) -> Result<(), R::Fault>
-    ensures { Finds R.reading records.old records.new result (λ m _.
-        Follows (R.shown m) node.now class.old class.new
+    ensures { ReadsSo R.reading records.old records.new result (λ m _.
+        FollowsSigns (R.shown m) node.now class.old class.new
         (λ k. contains sign_cmp looked.old k) (λ k. contains sign_cmp looked.new k)) }
 {
     let Some(one) = records.open(node)? else {
@@ -205,7 +205,7 @@ pub fn aliases<R: Records>(
     alloc: Global,
     node: &Node,
 ) -> Result<Vec<Node>, R::Fault>
-    ensures { Finds R.reading records.old records.new result (λ m nodes.
+    ensures { ReadsSo R.reading records.old records.new result (λ m nodes.
         AreAliases (R.shown m) node.now nodes.items) }
 {
     let mut class = Class::new(alloc);
@@ -217,7 +217,7 @@ pub fn aliases<R: Records>(
 /// All nodes that stand for one entity with a node, by finitely many aliases, each once and in any
 /// order; the node is one of them, whether or not it is open. Each sign of them is looked up once.
 pub fn same<R: Records>(records: &mut R, alloc: Global, node: &Node) -> Result<Vec<Node>, R::Fault>
-    ensures { Finds R.reading records.old records.new result (λ m nodes.
+    ensures { ReadsSo R.reading records.old records.new result (λ m nodes.
         AreSame (R.shown m) node.now nodes.items) }
 {
     let mut class = Class::new(alloc);
@@ -239,7 +239,7 @@ pub fn identified<R: Records>(
     alloc: Global,
     identifier: &Identifier,
 ) -> Result<Vec<Node>, R::Fault>
-    ensures { Finds R.reading records.old records.new result (λ m nodes.
+    ensures { ReadsSo R.reading records.old records.new result (λ m nodes.
         AreDistinct (R.shown m).nodes
         → AreIdentified (R.shown m) identifier.now nodes.items) }
 {

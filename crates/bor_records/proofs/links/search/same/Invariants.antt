@@ -1,13 +1,13 @@
 use Rattle.std.proofs.Common.{Ok, ◌-◌, ◌^◌}
 use Rattle.std.specs.BTreeSet.{contains}
-use Rattle.bor_records.specs.Reading.{Finds}
+use Rattle.bor_records.specs.Reading.{ReadsSo}
 use Rattle.bor_records.specs.Links.Signs.{sign_cmp}
 use Rattle.bor_records.proofs.OnLinks.Reached.{AreGathered}
 use Rattle.bor_records.proofs.links.search.same.Given as goal
 
 -- the signs of the nodes before `next` are looked up, and all that have them are there
 abbrev pub invariant-loop-next : goal.invariant-loop-next
-invariant-loop-next g l = Finds g.R.Records.reading l.fn.records l.records (Ok l.class)
+invariant-loop-next g l = ReadsSo g.R.Records.reading l.fn.records l.records (Ok l.class)
     (λ m class. AreGathered (g.R.Records.shown m) l.node l.next class (λ k. contains sign_cmp l.looked k))
 
 -- a list in memory has fewer than 2 ^ 64 elements
