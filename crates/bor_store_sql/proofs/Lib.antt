@@ -27,8 +27,6 @@ pub mod FromTables
 pub mod Selecting
 pub mod Creating
 pub mod Created
-pub mod WholeReads
-pub mod KeyedReads
 pub mod Moves
 pub mod Beside
 pub mod AnySchema
