@@ -1,14 +1,10 @@
 -- The rows that are read of one filing's statements, in tables of either version.
-use Rattle.std.proofs.Common.{◌≡◌, ℕ, pos, Bool, ◌&&◌, ◌==◌, List, [], ◌∷◌, Vec, Result, map, refl, sym, ap, ap₂, ◌∙◌}
+use Rattle.std.proofs.Common.{ℕ, pos, Bool, ◌&&◌, ◌==◌, List, [], ◌∷◌, map, refl, sym, ap, ap₂, ◌∙◌}
 use Rattle.std.specs.List.{flat_map}
-use Rattle.std.specs.declared.alloc.Global.{Global}
 use Rattle.std.proofs.Math.Bool.{and-true}
 use Rattle.sqlite.specs.Order.{Row}
-use Rattle.sqlite.specs.State.{State}
-use Rattle.sqlite.specs.declared.error.Error.{Error}
 use Rattle.sqlite.specs.declared.types.Value.TheVariants.{Int, Text}
 use Rattle.sqlite_keyed.proofs.ListLemmas.{ascending-filter, map-flat_map}
-use Rattle.bor_register.specs.Register.{Register}
 use Rattle.bor_terms.specs.Texts.{is_same}
 use Rattle.bor_store_sql.specs.Texts.Queries.{identifiers_of_statement_query, identifiers_of_statement_text, interests_of_statement_query, interests_of_statement_text, rising, statements_of_filing_query, statements_of_filing_text}
 use Rattle.bor_store_sql.proofs.OnTexts.QueryMeanings.{identifiers_of_statement_both, interests_of_statement_both, statements_of_filing_both}
@@ -18,7 +14,6 @@ use Rattle.bor_store_sql.specs.declared.rows.places.At.{At}
 use Rattle.bor_store_sql.specs.declared.rows.typed.IdentifierRow.{IdentifierRow}
 use Rattle.bor_store_sql.specs.declared.rows.typed.InterestRow.{InterestRow}
 use Rattle.bor_store_sql.specs.declared.rows.typed.Placed.{Placed}
-use Rattle.bor_store_sql.specs.Found.{AnswersQuery, FindsRows}
 use Rattle.bor_store_sql.specs.Selected.{identifiers_at, in_filing, interests_at, placed_of}
 use Rattle.bor_store_sql.specs.Shown.{ShowsLists}
 use Rattle.bor_store_sql.proofs.BothReads.{answered, lists_now}

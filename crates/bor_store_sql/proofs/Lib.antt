@@ -33,7 +33,6 @@ pub mod AnySchema
 pub mod Standing
 pub mod Unread
 pub mod AddedBeside
-pub mod CreatedBeside
 pub mod PutBeside
 pub mod Versioning
 pub mod PeriodReads

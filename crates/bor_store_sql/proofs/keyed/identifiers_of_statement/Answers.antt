@@ -8,4 +8,4 @@ pub query-requires : goal.query-requires
 query-requires g c = is_query identifiers_of_statement_is
 
 pub returns : goal.returns
-returns g c = finds c.query.ensures c.statement_key.ensures (identifiers_of_statement_found (record { agent = c.args.agent.now; filing = c.args.number; place = c.args.place }))
+returns g c = finds c.query.ensures c.statement_key.ensures (identifiers_of_statement_found c.args.at.now)
