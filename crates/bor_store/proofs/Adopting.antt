@@ -1,5 +1,5 @@
 -- The rows that the version's query finds, and that the tables of a register are all there.
-use Rattle.std.proofs.Common.{◌≡◌, ℤ, pos, true, false, ◌&&◌, List, [], ◌∷◌, ◌++◌, codes, Vec, Option, Some, None, Result, Ok, Err, IfOk, OnOk, IsTrue, refl, sym, subst}
+use Rattle.std.proofs.Common.{◌≡◌, ℤ, pos, true, false, List, [], ◌∷◌, codes, Vec, Option, Some, None, Result, Ok, Err, IfOk, OnOk, IsTrue, refl, sym, subst}
 use Rattle.std.specs.declared.alloc.Global.{Global}
 use Rattle.sqlite_tied.specs.Compute.{everything}
 use Rattle.sqlite.specs.declared.types.Value.TheVariants.{Int, Null}

@@ -1,5 +1,5 @@
 -- The tables that are taken for a register, and the registers that files hold.
-use Rattle.std.specs.Prelude.{◌≡◌, ◌≢◌, ◌⊎◌, ℕ, ℤ, Bool, true, false, if◌then◌else◌, ◌||◌, ◌&&◌}
+use Rattle.std.specs.Prelude.{◌≡◌, ◌≢◌, ◌⊎◌, ℕ, ℤ, Bool, false, if◌then◌else◌, ◌||◌, ◌&&◌}
 use Rattle.std.specs.Prelude.{List, [], ◌∷◌, map, is_some, codes, Option, Some, None, Result, Ok}
 use Rattle.std.specs.Prelude.{Err, IsErrAnd, IsTrue, ⊤}
 use Rattle.std.specs.List.{list_any, list_all}

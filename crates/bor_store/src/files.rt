@@ -18,7 +18,7 @@ use crate::days::add_days;
 use bods_read::{ReadFault, Statement, read_file};
 use bor_register::Filing;
 use bor_store_reads::{ReadError, all_values, first_value};
-use bor_store_sql::rows::{FilingRow, PeriodRow};
+use bor_store_sql::rows::{FilingKey, FilingRow, PeriodRow};
 use bor_store_sql::{all_filings, file_by_number, keeps_statements};
 use bor_terms::AgentName;
 use sqlite::{Alter, Connection};
@@ -80,8 +80,12 @@ fn add_file<S: Alter>(
         → (f : AcceptedFiling) → filed_at agent.now number r.members ≡ Some f → f.bytes ≡ bytes.now
         → Gathers (FileSays agent.now number f) days.old.items days.new.items result }
 {
+    let filing = FilingKey {
+        number,
+        agent: agent.copy(alloc)?,
+    };
     let statements = statements_of(alloc, bytes)?;
-    let fits = keeps_statements(conn, agent.as_str(), number, statements.as_slice())?;
+    let fits = keeps_statements(conn, filing, statements.as_slice())?;
     if !fits {
         return Err(ReadError::Damaged);
     }

@@ -13,6 +13,7 @@ use crate::forms::all_formed;
 use bods_read::Statement;
 use bor_store_reads::{ReadError, filing_count};
 use bor_store_sql::add_filing;
+use bor_store_sql::rows::FilingKey;
 use bor_terms::{AgentName, Day, LodgeKey};
 use sqlite::{Alter, Connection};
 use std::alloc::Global;
@@ -63,9 +64,14 @@ pub(crate) fn add_next_filing<S: Alter>(
     ensures undamaged { IsClean (state S.Store conn.new) → (r : Register)
         → ShowsIn r (state S.Store conn.old) → IfErr result IsNoDamage }
 {
+    let name = agent.copy(alloc)?;
     let number = next_number(conn, alloc, agent)?;
     all_formed(statements);
-    let made = add_filing(conn, agent.as_str(), number, key, due, bytes, statements);
+    let filing = FilingKey {
+        number,
+        agent: name,
+    };
+    let made = add_filing(conn, filing, key, due, bytes, statements);
     match made {
         Ok(()) => Ok(number),
         Err(error) => Err(ReadError::from(error)),

@@ -8,15 +8,15 @@ use Rattle.std.proofs.lemmas.Option.{same_Some}
 use Rattle.sqlite.specs.State.{State}
 use Rattle.bor_records.specs.Links.Nodes.{text_cmp}
 use Rattle.bor_register.specs.Register.{Register}
-use Rattle.bor_store_sql.proofs.Lists.{where_ok}
+use Rattle.bor_store_sql.proofs.Finding.{known}
+use Rattle.bor_store_sql.specs.declared.rows.places.At.{At}
+use Rattle.bor_store_sql.specs.declared.rows.places.FilingKey.{FilingKey}
 use Rattle.bor_store_sql.specs.Found.{ReadsOnly}
 use Rattle.bor_store_sql.specs.Shown.{IsClean, StaysUp}
 use Rattle.bor_store_reads.specs.declared.fault.ReadError.{ReadError}
 use Rattle.bor_store_reads.specs.Answering.{Answers, ReadsAs}
 use Rattle.bor_store_reads.proofs.Found.{still_shows}
-use Rattle.bor_store_keys.specs.declared.found.FilingKey.{FilingKey}
 use Rattle.bor_store_keys.specs.declared.found.Found.{Found}
-use Rattle.bor_store_keys.specs.declared.found.PlaceKey.{PlaceKey}
 use Rattle.bor_store_keys.specs.Finding.{AreOf, IsCurrent, Holds, filing_cmp, place_cmp}
 
 -- a read leaves it
@@ -36,7 +36,7 @@ read_noted state_of {old = old} {result = result} {P = P} same was = subst (λ k
 pub read_listed : {X K : Type 0} (state_of : K → State) {old : State} {read left : K} {result : Result X ReadError} {P : Register → X → Type 0} → ReadsOnly old (state_of read) → StaysUp old (state_of read) → left ≡ read → Answers (state_of read) (state_of left) result P → ReadsAs old (state_of left) result P
 read_listed state_of {old} {read} {left} {result} reads up same answer = record {
   reads = subst (λ k. ReadsOnly old (state_of k)) (sym same) reads;
-  up = where_ok result (subst (λ k. StaysUp old (state_of k)) (sym same) up);
+  up = known result (subst (λ k. StaysUp old (state_of k)) (sym same) up);
   answer = λ clean r shows. answer clean r (still_shows r old (state_of read) (reads.kept (subst (λ k. IsClean (state_of k)) same clean)) shows);
 }
 
@@ -69,5 +69,5 @@ exact_filing a b h =
 
 pub exact_place : CmpEqualImpliesEq place_cmp
 exact_place a b h =
-    ap (λ (p : ℕ × (ℕ × List ℕ)). let k : PlaceKey = record { filing = p.0; place = p.1.0; agent = p.1.1 } in k)
+    ap (λ (p : ℕ × (ℕ × List ℕ)). let k : At = record { filing = p.0; place = p.1.0; agent = p.1.1 } in k)
     (exact_pairs nat_cmp (λ (x y : ℕ × List ℕ). ordering_then (nat_cmp x.0 y.0) (text_cmp x.1 y.1)) exact_unsigned (exact_pairs nat_cmp text_cmp exact_unsigned exact_bytes) (a.filing, (a.place, a.agent)) (b.filing, (b.place, b.agent)) h)

@@ -10,10 +10,10 @@ use Rattle.bor_records.specs.Links.Nodes.{node_cmp, text_cmp}
 use Rattle.bor_records.specs.Links.Series.{open_at}
 use Rattle.bor_register.specs.Register.{Register, filings_of}
 use Rattle.bor_store_sql.specs.Shown.{IsClean, ShowsIn}
+use Rattle.bor_store_sql.specs.declared.rows.places.At.{At}
+use Rattle.bor_store_sql.specs.declared.rows.places.FilingKey.{FilingKey}
 use Rattle.bor_store_reads.specs.Asking.{is_number_seen}
-use Rattle.bor_store_keys.specs.declared.found.FilingKey.{FilingKey}
 use Rattle.bor_store_keys.specs.declared.found.Found.{Found}
-use Rattle.bor_store_keys.specs.declared.found.PlaceKey.{PlaceKey}
 use Rattle.bor_store_keys.specs.Signed.{record_standing}
 use Rattle.bor_store_keys.specs.Viewed.{rows_seen, seen}
 
@@ -22,17 +22,15 @@ abbrev pub filing_cmp : FilingKey → FilingKey → Ordering
 filing_cmp a b = ordering_then (nat_cmp a.number b.number) (text_cmp a.agent b.agent)
 
 -- by filing, place and agent
-abbrev pub place_cmp : PlaceKey → PlaceKey → Ordering
+abbrev pub place_cmp : At → At → Ordering
 place_cmp a b =
     ordering_then (nat_cmp a.filing b.filing)
     (ordering_then (nat_cmp a.place b.place) (text_cmp a.agent b.agent))
 
 -- of each of the records the live statement at the place is one
-abbrev pub AreRecordsAt : Register → BTreeMap PlaceKey Node → Type 0
+abbrev pub AreRecordsAt : Register → BTreeMap At Node → Type 0
 AreRecordsAt r places =
-    (k : PlaceKey) (n : Node) → get place_cmp places k ≡ Some n
-    → record_standing r.members (record { agent = k.agent; filing = k.filing; place = k.place })
-    ≡ Some n
+    (at : At) (n : Node) → get place_cmp places at ≡ Some n → record_standing r.members at ≡ Some n
 
 -- the answers that were found are those of the register
 pub record AreOf (r : Register) (f : Found) : Type 0 where

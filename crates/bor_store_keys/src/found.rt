@@ -19,26 +19,10 @@ use crate::view::View;
 use bor_chains::ListSource;
 use bor_records::Row;
 use bor_records::links::{Node, NodeInfo, OpenNode, info_stated, node_of};
-use bor_store_sql::rows::At;
-use bor_terms::AgentName;
+use bor_store_sql::rows::{At, FilingKey};
 use std::alloc::{AllocError, Global};
 use std::collections::BTreeMap;
 use std::mem::drop;
-
-/// A filing, by its number and its agent.
-#[derive(Drop, PartialEq, Eq, PartialOrd, Ord)]
-pub(crate) struct FilingKey {
-    pub(crate) number: u32,
-    pub(crate) agent: AgentName,
-}
-
-/// Where a statement stands, by its filing, its place there and its agent.
-#[derive(Drop, PartialEq, Eq, PartialOrd, Ord)]
-pub(crate) struct PlaceKey {
-    pub(crate) filing: u32,
-    pub(crate) place: usize,
-    pub(crate) agent: AgentName,
-}
 
 // How many records are read before it is first asked whether all should be read.
 const MANY: usize = 128;
@@ -54,7 +38,7 @@ pub(crate) struct Found {
     pub(crate) view: View,
     pub(crate) filings: BTreeMap<FilingKey, bool>,
     pub(crate) rows: BTreeMap<Node, Option<Row>>,
-    pub(crate) places: BTreeMap<PlaceKey, Node>,
+    pub(crate) places: BTreeMap<At, Node>,
     pub(crate) lists: Option<ListSource>,
     /// How many records are read before it is next asked whether all should be read.
     pub(crate) many: usize,
@@ -212,12 +196,7 @@ impl Found {
             (r : Register) (n : Node) → AreOf r self.now → found ≡ Some n
             → record_standing r.members at.now ≡ Some n) }
     {
-        let key = PlaceKey {
-            filing: at.filing,
-            place: at.place as usize,
-            agent: at.agent.copy(alloc)?,
-        };
-        match self.places.get(&key) {
+        match self.places.get(at) {
             Some(node) => Ok(Some(node.copy(alloc)?)),
             None => Ok(None),
         }
@@ -239,26 +218,27 @@ pub(crate) fn taken(found: &mut Option<Found>, view: &View) -> Option<Found>
     }
 }
 
-// Puts the record under the place of the row that it shows.
+// Puts the record under the place of the row that it shows; tables have no place past 32 bits.
 fn put_place(
     alloc: Global,
-    places: &mut BTreeMap<PlaceKey, Node>,
+    places: &mut BTreeMap<At, Node>,
     node: &Node,
     row: &Option<Row>,
 ) -> Result<(), AllocError>
     ensures { OnOk result ((r : Register) (view : View) → IsStored r → AreRecordsAt r places.old
         → row.now ≡ open_at view.day node.now (rows_seen view r) → AreRecordsAt r places.new) }
 {
-    match row {
-        Some(row) => {
-            let key = PlaceKey {
-                filing: row.filing,
-                place: row.place,
-                agent: row.agent.copy(alloc)?,
-            };
-            places.insert(key, node.copy(alloc)?)?;
-            Ok(())
-        }
-        None => Ok(()),
-    }
+    let Some(row) = row else {
+        return Ok(());
+    };
+    let Ok(place) = u32::try_from(row.place) else {
+        return Ok(());
+    };
+    let at = At {
+        filing: row.filing,
+        place,
+        agent: row.agent.copy(alloc)?,
+    };
+    places.insert(at, node.copy(alloc)?)?;
+    Ok(())
 }

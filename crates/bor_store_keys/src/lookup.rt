@@ -19,7 +19,7 @@ ghost use Rattle.bor_store_keys.specs.Finding.{Holds};
 ghost use Rattle.bor_store_keys.specs.Signed.{record_standing};
 ghost use Rattle.bor_store_keys.specs.Viewed.{rows_seen, seen};
 
-use crate::found::{FilingKey, Found, taken};
+use crate::found::{Found, taken};
 use crate::view::View;
 use bor_chains::ListSource;
 use bor_records::Row;
@@ -28,7 +28,7 @@ use bor_store_reads::{
     ReadError, has_more, identifiers_of_one, interests_of_one, is_number_seen, read_day,
     read_identified, read_place, read_record, read_series, read_subject, read_visible,
 };
-use bor_store_sql::rows::{At, IdentifierRow, InterestRow, StatementRow};
+use bor_store_sql::rows::{At, FilingKey, IdentifierRow, InterestRow, StatementRow};
 use bor_terms::{AgentName, Day};
 use sqlite::{Alter, Connection};
 use std::alloc::{AllocError, Global};

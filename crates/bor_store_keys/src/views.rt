@@ -5,10 +5,10 @@ ghost use Rattle.bor_register.specs.Register.{filings_of};
 ghost use Rattle.bor_store_reads.specs.Answering.{ReadsIn};
 ghost use Rattle.bor_store_reads.specs.Asking.{is_number_seen};
 
-use crate::found::FilingKey;
 use crate::lookup::Lookup;
 use crate::view::View;
 use bor_store_reads::ReadError;
+use bor_store_sql::rows::FilingKey;
 use bor_terms::{AgentName, Day};
 use sqlite::Alter;
 use std::alloc::Global;

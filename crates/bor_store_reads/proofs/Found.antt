@@ -1,5 +1,5 @@
 -- The answers from the rows that a query finds.
-use Rattle.std.proofs.Common.{◌≡◌, arith, ℕ, zero, suc, nat_le, List, [], ◌∷◌, map, take, drop, length, Bool, true, false, true≢false, not, cond, Vec, Result, Ok, Err, IfOk, IsOk, OnOk, MatchResult, refl, sym, ap, subst, ◌∙◌, slice_get}
+use Rattle.std.proofs.Common.{◌≡◌, arith, ℕ, zero, suc, nat_le, List, [], ◌∷◌, map, take, drop, length, Bool, true, false, true≢false, not, cond, Vec, Option, Result, Ok, Err, IfOk, IsOk, OnOk, MatchResult, refl, sym, ap, subst, ◌∙◌, slice_get}
 use Rattle.std.specs.Prelude.{All, ◌==◌, ◌||◌, unwrap_or}
 use Rattle.std.specs.List.{filter, list_any}
 use Rattle.std.specs.declared.alloc.Global.{Global}
@@ -25,16 +25,24 @@ stays : {Y : Type 0} (old new : State) (result : Result Y ReadError) → IfOk re
 stays old new (Ok y) up = λ clean was. up clean
 stays old new (Err e) up = tt
 
-module _ {X : Type 0} (columns : X → Row) (is_formed : X → Type 0) (old new : State) (found : Result (Vec Row Global) Error) (rows_of : Register → List Row) (finds : FindsRows ShowsIn old new found rows_of)
-    (xs_of : Register → List X) (are : (r : Register) → rows_of r ≡ map columns (xs_of r)) (formed : (r : Register) → IsStored r → All is_formed (xs_of r)) where
+module _ {X Y : Type 0} (columns : X → Row) (is_formed : X → Type 0) {old new : State} {found : Result (Vec Row Global) Error} {rows_of : Register → List Row} {result : Result Y ReadError} where
   -- what is told of rows that are those of formed values
-  pub told : {Y : Type 0} (result : Result Y ReadError) (Q : List X → Y → Type 0)
+  told : (Q : List X → Y → Type 0) (xs_of : Register → List X) → FindsRows ShowsIn old new found rows_of → ((r : Register) → rows_of r ≡ map columns (xs_of r)) → ((r : Register) → IsStored r → All is_formed (xs_of r))
       → ((xs : List X) → IfOk found (λ rows. rows.items ≡ map columns xs) → All is_formed xs → MatchResult result (Q xs) IsNoDamage) → OnOk result (IsOk found) → ReadsAs old new result (λ r. Q (xs_of r))
-  told result Q h is_ok = record {
+  told Q xs_of finds are formed h is_ok = record {
     reads = finds.reads;
     up = stays old new result (made_up old new found rows_of result finds is_ok);
     answer = λ clean r shows. h (xs_of r) (subst (λ l. IfOk found (λ rows. rows.items ≡ l)) (are r) (finds.rows clean r shows)) (formed r shows.stored);
   }
+
+module _ {X : Type 0} (columns : X → Row) (is_formed : X → Type 0) {old new : State} {found : Result (Vec Row Global) Error} {rows_of : Register → List Row} where
+  pub all_told : {xs_of : Register → List X} {result : Result (Vec X Global) ReadError} → FindsRows ShowsIn old new found rows_of → ((r : Register) → rows_of r ≡ map columns (xs_of r)) → ((r : Register) → IsStored r → All is_formed (xs_of r))
+      → ((xs : List X) → IfOk found (λ rows. rows.items ≡ map columns xs) → All is_formed xs → MatchResult result (λ values. values.items ≡ xs) IsNoDamage) → OnOk result (IsOk found) → ReadsAs old new result (λ r values. values.items ≡ xs_of r)
+  all_told {xs_of} finds are formed h is_ok = told columns is_formed (λ xs values. values.items ≡ xs) xs_of finds are formed h is_ok
+
+  pub first_told : {result : Result (Option X) ReadError} (xs_of : Register → List X) → FindsRows ShowsIn old new found rows_of → ((r : Register) → rows_of r ≡ map columns (xs_of r)) → ((r : Register) → IsStored r → All is_formed (xs_of r))
+      → ((xs : List X) → IfOk found (λ rows. rows.items ≡ map columns xs) → All is_formed xs → MatchResult result (λ x. x ≡ slice_get xs 0) IsNoDamage) → OnOk result (IsOk found) → ReadsAs old new result (λ r x. x ≡ slice_get (xs_of r) 0)
+  first_told xs_of finds are formed h is_ok = told columns is_formed (λ xs x. x ≡ slice_get xs 0) xs_of finds are formed h is_ok
 
 -- what is told of whether rows are found
 pub told_any : (old new : State) (found : Result (Vec Row Global) Error) (rows_of : Register → List Row) → FindsRows ShowsIn old new found rows_of → (has : Register → Bool) → ((r : Register) → not (length (rows_of r) == 0) ≡ has r)
@@ -48,10 +56,6 @@ told_any old new found rows_of finds has is result h is_ok = record {
 pub answered : {X : Type 0} (result : Result X ReadError) (P Q : X → Type 0) → ((x : X) → P x → Q x) → MatchResult result P IsNoDamage → MatchResult result Q IsNoDamage
 answered (Ok x) P Q so h = so x h
 answered (Err e) P Q so h = h
-
--- the same answer in other words
-pub in_words : {X : Type 0} (old new : State) (result : Result X ReadError) (P Q : Register → X → Type 0) → ((r : Register) (x : X) → IsStored r → P r x → Q r x) → ReadsAs old new result P → ReadsAs old new result Q
-in_words old new result P Q h was = record { reads = was.reads; up = was.up; answer = λ clean r shows. answered result (P r) (Q r) (λ x. h r x shows.stored) (was.answer clean r shows) }
 
 -- ---- counts
 

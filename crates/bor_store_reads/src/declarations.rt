@@ -52,10 +52,7 @@ fn lines_of_one<S: Alter>(
     ensures { ReadsIn S.Store conn.old conn.new result (λ r rows.
         rows.items ≡ map interest_line (interests_at at.now r.members)) }
 {
-    all_values(
-        alloc,
-        interests_of_statement(conn, at.agent.as_str(), at.filing, at.place),
-    )
+    all_values(alloc, interests_of_statement(conn, at))
 }
 
 // The days of the interests of the statement at this place.
@@ -67,10 +64,7 @@ fn periods_of_one<S: Alter>(
     ensures { ReadsIn S.Store conn.old conn.new result (λ r rows.
         rows.items ≡ flat_map period_rows (interests_at at.now r.members)) }
 {
-    all_values(
-        alloc,
-        periods_of_statement(conn, at.agent.as_str(), at.filing, at.place),
-    )
+    all_values(alloc, periods_of_statement(conn, at))
 }
 
 /// The interests of the statement at this place.
@@ -130,10 +124,7 @@ pub fn identifiers_of_one<S: Alter>(
     ensures { ReadsIn S.Store conn.old conn.new result (λ r rows.
         rows.items ≡ identifiers_at at.now r.members) }
 {
-    all_values(
-        alloc,
-        identifiers_of_statement(conn, at.agent.as_str(), at.filing, at.place),
-    )
+    all_values(alloc, identifiers_of_statement(conn, at))
 }
 
 // The identifiers of the statement of this row. An entity alone has any, so none are asked for of

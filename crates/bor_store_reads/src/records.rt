@@ -74,10 +74,7 @@ pub fn read_place<S: Alter>(
     ensures { ReadsIn S.Store conn.old conn.new result (λ r row.
         row ≡ option_map bare (slice_get (standing_at at.now r.members) 0)) }
 {
-    first_value(
-        alloc,
-        statement_by_place(conn, at.agent.as_str(), at.filing, at.place),
-    )
+    first_value(alloc, statement_by_place(conn, at))
 }
 
 /// The rows of the identifiers of all live statements that have this scheme and this identifier, by

@@ -1,10 +1,9 @@
 -- The effects of the INSERTs.
-use Rattle.std.proofs.Common.{◌≡◌, ℕ, ℤ, pos, ◌/◌, cond, List, [], ◌∷◌, length, Option, option_map, None, Some, Ok, refl}
+use Rattle.std.proofs.Common.{◌≡◌, ℕ, ℤ, pos, ◌/◌, cond, List, [], ◌∷◌, length, Option, option_map, None, Some, refl}
 use Rattle.sqlite.specs.declared.types.Value.TheVariants.{Null}
 use Rattle.sqlite.specs.Kind.TheVariants.{Text as Words, Integer as Numbers}
 use Rattle.sqlite.specs.Cast.{cast, cast_all}
 use Rattle.sqlite.specs.Effect.{value_rows}
-use Rattle.sqlite.specs.State.{State, Executes}
 use Rattle.bor_terms.specs.Span.{Range}
 use Rattle.bods_read.specs.Words.{status_word}
 use Rattle.bor_register.specs.declared.filing.AcceptedFiling.{AcceptedFiling}
@@ -18,9 +17,10 @@ use Rattle.bor_store_sql.specs.declared.rows.typed.StatementRow.{StatementRow}
 use Rattle.bor_store_sql.specs.declared.rows.typed.InterestRow.{InterestRow}
 use Rattle.bor_store_sql.specs.declared.rows.typed.IdentifierRow.{IdentifierRow}
 use Rattle.bor_store_sql.specs.declared.rows.typed.PeriodRow.{PeriodRow}
-use Rattle.bor_store_sql.specs.Rows.Encoding.{Contents, agent_columns, filing_columns, statement_columns, interest_columns, identifier_columns, period_columns, day_or_null, or_null}
-use Rattle.bor_store_sql.specs.Shown.{Has}
-use Rattle.bor_store_sql.specs.Changing.{live_filing, given_filing, with_agent_row, with_filing_row, with_statement_row, with_interest_rows, with_identifier_rows, with_period_row}
+use Rattle.bor_store_sql.specs.Rows.Encoding.{agent_columns, filing_columns, statement_columns, interest_columns, identifier_columns, period_columns, day_or_null, or_null}
+use Rattle.bor_store_sql.specs.Shown.{ChangesContents}
+use Rattle.bor_store_sql.proofs.Moves.{Making}
+use Rattle.bor_store_sql.specs.Changing.{Any, live_filing, given_filing, with_agent_row, with_filing_row, with_statement_row, with_interest_rows, with_identifier_rows, with_period_row}
 use Rattle.bor_store_sql.proofs.Inserts.{inserts, cast_int, cast_null}
 use Rattle.bor_store_sql.proofs.Tables.{one_more}
 use Rattle.bor_store_sql.proofs.Others.{with_agents, with_filings, with_statements, with_interests, with_identifiers, with_periods}
@@ -75,40 +75,38 @@ day_kept (Some day) = cast_int day
 period_kept : (p : PeriodRow) → cast_all period_table.columns (period_columns p) ≡ period_columns p
 period_kept p = rw (cast_int (pos p.at.filing), cast_int (pos p.at.place), cast_int (pos p.item), day_kept p.starts, day_kept p.ends) refl
 
-module _ (old new : State) (count : ℕ) (t : Contents) (has : Has t old.now) where
-  pub agent_put : (m : Member) → Executes insert_agent_text (agent_columns m) old new (Ok count) → Has (with_agent_row (agent_columns m) t) new.now
-  agent_put m h =
-      let made = inserts insert_agent_text (agent_columns m) keep_schema 1 insert_agent_terms 3 agent_at (agent_columns m) insert_agent_is.0 insert_agent_is.1 refl refl refl refl refl (λ new. refl) old new count has.schema h in
-      with_agents t old.now new.now made.sound made.schema_is has made.others _ (rw made.rows (one_more t.agents (old.now.trees 2) (agent_columns m) has.agents))
+pub agent_put : (m : Member) → Making insert_agent_text (agent_columns m) (ChangesContents Any (with_agent_row (agent_columns m)))
+agent_put m old new count h t has fit =
+    let made = inserts insert_agent_text (agent_columns m) keep_schema 1 insert_agent_terms 3 agent_at (agent_columns m) insert_agent_is.0 insert_agent_is.1 refl refl refl refl refl (λ new. refl) old new count has.schema h in
+    with_agents t old.now new.now made.sound made.schema_is has made.others _ (rw made.rows (one_more t.agents (old.now.trees 2) (agent_columns m) has.agents))
 
-  pub filing_put : (agent : List ℕ) (number : ℕ) (key : List ℕ) (due : ℤ) (bytes : List ℕ) → Executes insert_filing_text (given_filing agent number key due bytes) old new (Ok count)
-      → Has (with_filing_row agent (live_filing number key due bytes []) t) new.now
-  filing_put agent number key due bytes h =
-      let f = live_filing number key due bytes [] in
-      let x = filing_columns agent f in
-      let made = inserts insert_filing_text (given_filing agent number key due bytes) keep_schema 2 insert_filing_terms 7 filing_at x insert_filing_is.0 insert_filing_is.1 refl refl refl refl (filing_kept agent f) (λ new. refl) old new count has.schema h in
-      with_filings t old.now new.now made.sound made.schema_is has made.others _ (rw made.rows (one_more t.filings (old.now.trees 5) x has.filings))
+pub filing_put : (agent : List ℕ) (number : ℕ) (key : List ℕ) (due : ℤ) (bytes : List ℕ) → Making insert_filing_text (given_filing agent number key due bytes) (ChangesContents Any (with_filing_row agent (live_filing number key due bytes [])))
+filing_put agent number key due bytes old new count h t has fit =
+    let f = live_filing number key due bytes [] in
+    let x = filing_columns agent f in
+    let made = inserts insert_filing_text (given_filing agent number key due bytes) keep_schema 2 insert_filing_terms 7 filing_at x insert_filing_is.0 insert_filing_is.1 refl refl refl refl (filing_kept agent f) (λ new. refl) old new count has.schema h in
+    with_filings t old.now new.now made.sound made.schema_is has made.others _ (rw made.rows (one_more t.filings (old.now.trees 5) x has.filings))
 
-  pub statement_put : (s : StatementRow) → Executes insert_statement_text (statement_columns s) old new (Ok count) → Has (with_statement_row s t) new.now
-  statement_put s h =
-      let made = inserts insert_statement_text (statement_columns s) keep_schema 3 insert_statement_terms 14 statement_at (statement_columns s) insert_statement_is.0 insert_statement_is.1 refl refl refl
-      (statement_given s) (statement_kept s) (λ new. refl) old new count has.schema h in
-      with_statements t old.now new.now made.sound made.schema_is has made.others _ (rw made.rows (one_more t.statements (old.now.trees 8) (statement_columns s) has.statements))
+pub statement_put : (s : StatementRow) → Making insert_statement_text (statement_columns s) (ChangesContents Any (with_statement_row s))
+statement_put s old new count h t has fit =
+    let made = inserts insert_statement_text (statement_columns s) keep_schema 3 insert_statement_terms 14 statement_at (statement_columns s) insert_statement_is.0 insert_statement_is.1 refl refl refl
+    (statement_given s) (statement_kept s) (λ new. refl) old new count has.schema h in
+    with_statements t old.now new.now made.sound made.schema_is has made.others _ (rw made.rows (one_more t.statements (old.now.trees 8) (statement_columns s) has.statements))
 
-  pub interest_put : (i : InterestRow) → Executes insert_interest_text (interest_columns i) old new (Ok count) → Has (with_interest_rows (i ∷ []) t) new.now
-  interest_put i h =
-      let made = inserts insert_interest_text (interest_columns i) keep_schema 4 insert_interest_terms 11 interest_at (interest_columns i) insert_interest_is.0 insert_interest_is.1 refl refl refl
-      (interest_given i) (interest_kept i) (λ new. refl) old new count has.schema h in
-      with_interests t old.now new.now made.sound made.schema_is has made.others _ (rw made.rows (one_more t.interests (old.now.trees 11) (interest_columns i) has.interests))
+pub interest_put : (i : InterestRow) → Making insert_interest_text (interest_columns i) (ChangesContents Any (with_interest_rows (i ∷ [])))
+interest_put i old new count h t has fit =
+    let made = inserts insert_interest_text (interest_columns i) keep_schema 4 insert_interest_terms 11 interest_at (interest_columns i) insert_interest_is.0 insert_interest_is.1 refl refl refl
+    (interest_given i) (interest_kept i) (λ new. refl) old new count has.schema h in
+    with_interests t old.now new.now made.sound made.schema_is has made.others _ (rw made.rows (one_more t.interests (old.now.trees 11) (interest_columns i) has.interests))
 
-  pub identifier_put : (i : IdentifierRow) → Executes insert_identifier_text (identifier_columns i) old new (Ok count) → Has (with_identifier_rows (i ∷ []) t) new.now
-  identifier_put i h =
-      let made = inserts insert_identifier_text (identifier_columns i) keep_schema 5 insert_identifier_terms 7 identifier_at (identifier_columns i) insert_identifier_is.0 insert_identifier_is.1 refl refl refl
-      refl (identifier_kept i) (λ new. refl) old new count has.schema h in
-      with_identifiers t old.now new.now made.sound made.schema_is has made.others _ (rw made.rows (one_more t.identifiers (old.now.trees 13) (identifier_columns i) has.identifiers))
+pub identifier_put : (i : IdentifierRow) → Making insert_identifier_text (identifier_columns i) (ChangesContents Any (with_identifier_rows (i ∷ [])))
+identifier_put i old new count h t has fit =
+    let made = inserts insert_identifier_text (identifier_columns i) keep_schema 5 insert_identifier_terms 7 identifier_at (identifier_columns i) insert_identifier_is.0 insert_identifier_is.1 refl refl refl
+    refl (identifier_kept i) (λ new. refl) old new count has.schema h in
+    with_identifiers t old.now new.now made.sound made.schema_is has made.others _ (rw made.rows (one_more t.identifiers (old.now.trees 13) (identifier_columns i) has.identifiers))
 
-  pub period_put : (p : PeriodRow) → Executes insert_period_text (period_columns p) old new (Ok count) → Has (with_period_row p t) new.now
-  period_put p h =
-      let made = inserts insert_period_text (period_columns p) keep_schema 6 insert_period_terms 7 period_at (period_columns p) insert_period_is.0 insert_period_is.1 refl refl refl
-      refl (period_kept p) (λ new. refl) old new count has.schema h in
-      with_periods t old.now new.now made.sound made.schema_is has made.others _ (rw made.rows (one_more t.periods (old.now.trees 19) (period_columns p) has.periods))
+pub period_put : (p : PeriodRow) → Making insert_period_text (period_columns p) (ChangesContents Any (with_period_row p))
+period_put p old new count h t has fit =
+    let made = inserts insert_period_text (period_columns p) keep_schema 6 insert_period_terms 7 period_at (period_columns p) insert_period_is.0 insert_period_is.1 refl refl refl
+    refl (period_kept p) (λ new. refl) old new count has.schema h in
+    with_periods t old.now new.now made.sound made.schema_is has made.others _ (rw made.rows (one_more t.periods (old.now.trees 19) (period_columns p) has.periods))

@@ -1,6 +1,5 @@
 -- The effects of the text that makes the table `period` beside the six.
-use Rattle.std.proofs.Common.{◌≡◌, ℕ, List, [], Ok, Result, refl, sym, subst}
-use Rattle.sqlite.specs.declared.error.Error.{Error}
+use Rattle.std.proofs.Common.{◌≡◌, ℕ, List, [], Ok, refl, sym, subst}
 use Rattle.sqlite.specs.Order.{Row}
 use Rattle.sqlite.specs.State.{State, Executes}
 use Rattle.bor_store_sql.specs.Texts.Tables.{first_schema, period_table}
@@ -8,11 +7,8 @@ use Rattle.bor_store_sql.specs.declared.texts.tables.TheConstants.{PERIOD_TABLE}
 use Rattle.bor_store_sql.proofs.OnTexts.TableMeanings.{period_is}
 use Rattle.bor_store_sql.specs.Rows.Encoding.{Contents}
 use Rattle.bor_store_sql.specs.Kept.{Keeps}
-use Rattle.bor_store_sql.specs.Moving.{MakesPeriod}
-use Rattle.bor_store_sql.specs.Ran.{MovesTo, Ran}
 use Rattle.bor_store_sql.specs.Shown.{Has, HasFirst}
 use Rattle.bor_store_sql.proofs.Creating.{none_kept, table_added}
-use Rattle.bor_store_sql.proofs.Moves.{moves_by}
 
 still : (xs old new : List Row) → new ≡ old → Keeps xs old → Keeps xs new
 still xs old new same keeps = subst (Keeps xs) (sym same) keeps
@@ -31,6 +27,3 @@ period_made old new count t has h =
       identifiers = still _ _ _ it.kept.1.1.1.1.1.0 has.identifiers;
       periods = none_kept _ it.empty;
     }
-
-pub period_made_beside : (given : Row) (old new : State) (result : Result (Unit {0}) Error) → Ran PERIOD_TABLE.now given old new result → given ≡ [] → MovesTo MakesPeriod old new result
-period_made_beside given old new result ran is = moves_by MakesPeriod PERIOD_TABLE.now given [] old new result ran is (λ count h t has. period_made old new count t has h)

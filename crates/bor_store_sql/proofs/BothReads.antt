@@ -1,5 +1,5 @@
 -- The lists that are read of tables of either version: all but the days of interests.
-use Rattle.std.proofs.Common.{◌≡◌, inl, inr, ℕ, pos, Bool, true, ◌&&◌, ◌==◌, List, [], ◌∷◌, Vec, Ok, Err, Result, IfOk, map, refl, sym, ap, ap₂, subst, ◌∙◌}
+use Rattle.std.proofs.Common.{◌≡◌, inl, inr, ℕ, pos, Bool, true, ◌&&◌, ◌==◌, List, [], ◌∷◌, Vec, Result, map, refl, sym, ap, ap₂, subst, ◌∙◌}
 use Rattle.std.specs.declared.alloc.Global.{Global}
 use Rattle.std.proofs.Math.Bool.{and-true}
 use Rattle.sqlite.specs.Order.{Row}
@@ -18,10 +18,10 @@ use Rattle.bor_store_sql.specs.Texts.Queries.{all_filings_query, all_filings_tex
 use Rattle.bor_store_sql.proofs.OnTexts.QueryMeanings.{all_filings_both, file_by_number_both}
 use Rattle.bor_store_sql.specs.Rows.Encoding.{contents, filing_rows, line_columns, shown_columns}
 use Rattle.bor_store_sql.specs.Rows.Placed.{filing_lines, filing_row}
-use Rattle.bor_store_sql.specs.Found.{AnswersQuery, FindsRows}
+use Rattle.bor_store_sql.specs.Found.{FindsRows}
 use Rattle.bor_store_sql.specs.Selected.{numbered}
 use Rattle.bor_store_sql.specs.Shown.{HasLists, IsOfVersion, ShowsFirst, ShowsIn, ShowsLists}
-use Rattle.bor_store_sql.proofs.Finding.{Shows}
+use Rattle.bor_store_sql.proofs.Finding.{Gives}
 use Rattle.bor_store_sql.proofs.Orders.{IsEarlier, Owned, filing_rows_are, owned, owned_rise, whole}
 use Rattle.bor_store_sql.proofs.Picking.{all_pass, picked_rows}
 use Rattle.bor_store_sql.proofs.Selecting.{lines_are, number_test, own_filings}
@@ -59,19 +59,6 @@ of_now r s shows = record {
 pub finds_now : {old new : State} {result : Result (Vec Row Global) Error} {rows_of : Register → List Row} → FindsRows ShowsLists old new result rows_of → FindsRows ShowsIn old new result rows_of
 finds_now found = record { reads = found.reads; settled = found.settled; up = found.up; rows = λ clean r shows. found.rows clean r (of_now r _ shows) }
 
-pub finds_both : (text : List ℕ) (params given : Row) (rows_of : Register → List Row) (old new : State) (result : Result (Vec Row Global) Error) → AnswersQuery text given old new result → given ≡ params
-    → ((r : Register) (rows : List Row) → ShowsLists r old → Shows text params old new rows → rows ≡ rows_of r) → FindsRows ShowsLists old new result rows_of
-finds_both text params given rows_of old new result asked is found = record {
-  reads = asked.reads;
-  settled = asked.settled;
-  up = asked.up;
-  rows = λ clean r shows. go result r shows (subst (λ row. IfOk result (λ rows. Shows text row old new rows.items)) is (asked.shown clean));
-}
-  where
-    go : (result : Result (Vec Row Global) Error) (r : Register) → ShowsLists r old → IfOk result (λ rows. Shows text params old new rows.items) → IfOk result (λ rows. rows.items ≡ rows_of r)
-    go (Ok rows) r shows h = found r rows.items shows h
-    go (Err e) r shows h = tt
-
 module _ (r : Register) (old new : State) (shows : ShowsLists r old) (rows : List Row) where
   pub lists_now : old.now ≡ old.committed → HasLists (contents r) old.now
   lists_now settled = subst (HasLists (contents r)) (sym settled) shows.has
@@ -83,29 +70,18 @@ module _ (r : Register) (old new : State) (shows : ShowsLists r old) (rows : Lis
       go (inl first) = (reads_as text params old new _ first (shows_rows query names) is.first.0 is.first.1 is.first.2 rows h).answer Null
       go (inr now) = (reads_as text params old new _ now (shows_rows query names) is.now.0 is.now.1 is.now.2 rows h).answer Null
 
-  all_filings_found : Shows all_filings_text [] old new rows → rows ≡ map line_columns (filing_lines r.members)
-  all_filings_found h =
-      picked_rows 5 refl all_filings_query.filter [] all_filings_query.project (rising 1 ∷ rising 2 ∷ []) (λ id x. refl) whole (λ o. line_columns (filing_row o.agent o.filing)) (λ o. true) (λ o. refl) (owned r.members) old.now.trees (filing_rows r.members) rows (filing_rows_are r.members)
-      (lists_now h.0).filings (λ id x. refl) (λ o. refl) (answered h.0 all_filings_text [] all_filings_query _ all_filings_both h.1) IsEarlier (λ a b lt. lt)
-      (ascending-filter IsEarlier (λ o. true) (owned r.members) (owned_rise r.members shows.stored.ordered shows.stored.numbered))
-      ∙ ap (map (λ (o : Owned). line_columns (filing_row o.agent o.filing))) (all_pass (owned r.members)) ∙ lines_are r.members
+pub all_filings_found : Gives ShowsLists all_filings_text [] (λ r. map line_columns (filing_lines r.members))
+all_filings_found r old new rows shows h =
+    picked_rows 5 refl all_filings_query.filter [] all_filings_query.project (rising 1 ∷ rising 2 ∷ []) (λ id x. refl) whole (λ o. line_columns (filing_row o.agent o.filing)) (λ o. true) (λ o. refl) (owned r.members) old.now.trees (filing_rows r.members) rows (filing_rows_are r.members)
+    (lists_now r old new shows rows h.0).filings (λ id x. refl) (λ o. refl) (answered r old new shows rows h.0 all_filings_text [] all_filings_query _ all_filings_both h.1) IsEarlier (λ a b lt. lt)
+    (ascending-filter IsEarlier (λ o. true) (owned r.members) (owned_rise r.members shows.stored.ordered shows.stored.numbered))
+    ∙ ap (map (λ (o : Owned). line_columns (filing_row o.agent o.filing))) (all_pass (owned r.members)) ∙ lines_are r.members
 
-  file_by_number_found : (agent : List ℕ) (number : ℕ) → Shows file_by_number_text (Text agent ∷ Int (pos number) ∷ []) old new rows → rows ≡ map (λ f. shown_columns (filing_shown f)) (numbered number (filings_of agent r.members))
-  file_by_number_found agent number h =
-      let p : Owned → Bool = λ o. is_same o.agent agent && o.filing.number == number in
-      picked_rows 5 refl file_by_number_query.filter (Text agent ∷ Int (pos number) ∷ []) file_by_number_query.project (rising 1 ∷ rising 2 ∷ []) (λ id x. refl) whole (λ o. shown_columns (filing_shown o.filing)) p
-      (λ o. ap₂ (λ x y. x && y) (text_test o.agent agent) (and-true _ ∙ int_test (pos o.filing.number) (pos number) ∙ number_test o.filing.number number)) (owned r.members) old.now.trees (filing_rows r.members) rows (filing_rows_are r.members)
-      (lists_now h.0).filings (λ id x. refl) (λ o. refl) (answered h.0 file_by_number_text (Text agent ∷ Int (pos number) ∷ []) file_by_number_query _ file_by_number_both h.1) IsEarlier (λ a b lt. lt)
-      (ascending-filter IsEarlier p (owned r.members) (owned_rise r.members shows.stored.ordered shows.stored.numbered))
-      ∙ own_filings agent r.members shows.stored.ordered (λ f. f.number == number) (λ o. shown_columns (filing_shown o.filing))
-
--- ---- each finds what it is said to find
-
-pub all_filings_finds : (given : Row) (old new : State) (result : Result (Vec Row Global) Error) → AnswersQuery all_filings_text given old new result → given ≡ [] → FindsRows ShowsLists old new result (λ r. map line_columns (filing_lines r.members))
-all_filings_finds given old new result asked is = finds_both all_filings_text [] given (λ r. map line_columns (filing_lines r.members)) old new result asked is (λ r rows shows h. all_filings_found r old new shows rows h)
-
-pub file_by_number_finds : (agent : List ℕ) (number : ℕ) (old new : State) (result : Result (Vec Row Global) Error) → AnswersQuery file_by_number_text (Text agent ∷ Int (pos number) ∷ []) old new result
-    → FindsRows ShowsLists old new result (λ r. map (λ f. shown_columns (filing_shown f)) (numbered number (filings_of agent r.members)))
-file_by_number_finds agent number old new result asked =
-    finds_both file_by_number_text (Text agent ∷ Int (pos number) ∷ []) (Text agent ∷ Int (pos number) ∷ []) (λ r. map (λ f. shown_columns (filing_shown f)) (numbered number (filings_of agent r.members))) old new result asked refl
-    (λ r rows shows h. file_by_number_found r old new shows rows agent number h)
+pub file_by_number_found : (agent : List ℕ) (number : ℕ) → Gives ShowsLists file_by_number_text (Text agent ∷ Int (pos number) ∷ []) (λ r. map (λ f. shown_columns (filing_shown f)) (numbered number (filings_of agent r.members)))
+file_by_number_found agent number r old new rows shows h =
+    let p : Owned → Bool = λ o. is_same o.agent agent && o.filing.number == number in
+    picked_rows 5 refl file_by_number_query.filter (Text agent ∷ Int (pos number) ∷ []) file_by_number_query.project (rising 1 ∷ rising 2 ∷ []) (λ id x. refl) whole (λ o. shown_columns (filing_shown o.filing)) p
+    (λ o. ap₂ (λ x y. x && y) (text_test o.agent agent) (and-true _ ∙ int_test (pos o.filing.number) (pos number) ∙ number_test o.filing.number number)) (owned r.members) old.now.trees (filing_rows r.members) rows (filing_rows_are r.members)
+    (lists_now r old new shows rows h.0).filings (λ id x. refl) (λ o. refl) (answered r old new shows rows h.0 file_by_number_text (Text agent ∷ Int (pos number) ∷ []) file_by_number_query _ file_by_number_both h.1) IsEarlier (λ a b lt. lt)
+    (ascending-filter IsEarlier p (owned r.members) (owned_rise r.members shows.stored.ordered shows.stored.numbered))
+    ∙ own_filings agent r.members shows.stored.ordered (λ f. f.number == number) (λ o. shown_columns (filing_shown o.filing))

@@ -36,7 +36,7 @@ use Rattle.bor_store_sql.specs.Ran.{MovesTo}
 use Rattle.bor_store_sql.specs.Shown.{Has, HasFirst}
 use Rattle.bor_store_sql.proofs.Inserts.{inserts, went, same_value, cast_int}
 use Rattle.bor_store_sql.proofs.Others.{with_register}
-use Rattle.bor_store_sql.proofs.Moves.{both_move, in_other_words}
+use Rattle.bor_store_sql.proofs.Moves.{Making, both_move, in_other_words}
 use Rattle.bor_store_sql.proofs.Tables.{one_more}
 
 -- tables without rows stay so where rows are kept
@@ -66,8 +66,8 @@ module _ (sql : List ℕ) (schema : Schema) (table : Table) (is : MakesTable sch
       let kept : KeepsRows schema.tables old.now.trees first.0.trees = subst (λ (s : Schema). KeepsRows s.tables old.now.trees first.0.trees) has made.others in
       subst (Added schema table old.now) (sym now) (record { sound = subst IsDatabase now w.sound; schema_is = schema_is; empty = none; kept = kept })
 
-  pub table_made : (old new : State) (count : ℕ) → IsBlank schema old.now → Executes sql [] old new (Ok count) → IsBlank (created schema table) new.now
-  table_made old new count blank h =
+  pub table_made : Making sql [] (λ was is. IsBlank schema was → IsBlank (created schema table) is)
+  table_made old new count h blank =
       let it = table_added old new count blank.is h in
       record {
         is = it.schema_is;
@@ -75,8 +75,8 @@ module _ (sql : List ℕ) (schema : Schema) (table : Table) (is : MakesTable sch
       }
 
 module _ (sql : List ℕ) (schema : Schema) (at : ℕ) (table : Table) (index : Index) (is : MakesIndex schema at table sql index) (found : slice_get schema.tables at ≡ Some table) where
-  pub index_made : (old new : State) (count : ℕ) → IsBlank schema old.now → Executes sql [] old new (Ok count) → IsBlank (indexed schema table index) new.now
-  index_made old new count blank h =
+  pub index_made : Making sql [] (λ was is. IsBlank schema was → IsBlank (indexed schema table index) is)
+  index_made old new count h blank =
       let w = subst (λ t. Writes old new None (CreateIndex at) t [] count) is.1 (runs_as sql [] old new schema blank.is (CreateIndex at) is.0 is.2 count h) in
       let at_table = subst (λ (s : Schema). Does old.step_limit (mode_of old) [] (record old.now { schema = s }) sql None (CreateIndex at) (Ok (w.tally, new.now))) blank.is w.changed in
       let all = went (rw found at at_table) in

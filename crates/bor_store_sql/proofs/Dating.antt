@@ -1,11 +1,10 @@
 -- The effects of the UPDATE of the register's day.
-use Rattle.std.proofs.Common.{◌≡◌, ◌≤◌, ℕ, ℤ, pos, Bool, true, false, cond, List, [], ◌∷◌, length, drop, ◌==◌, Ok, arith, refl, subst, ◌∙◌}
+use Rattle.std.proofs.Common.{◌≡◌, ◌≤◌, ℤ, pos, Bool, true, false, cond, List, [], ◌∷◌, length, drop, ◌==◌, arith, refl, subst, ◌∙◌}
 use Rattle.std.specs.List.{flat_map, filter_map}
 use Rattle.std.proofs.Math.Bool.{and-true}
 use Rattle.sqlite.specs.declared.types.Value.TheVariants.{Null, Int}
 use Rattle.sqlite.specs.Order.{Row, column}
 use Rattle.sqlite.specs.Term.{Term, col}
-use Rattle.sqlite.specs.State.{State, Executes}
 use Rattle.sqlite.specs.Effect.{Database}
 use Rattle.sqlite_rules.specs.Action.{Work, works, work_by, pairs, deed_for}
 use Rattle.sqlite_schema.specs.Rules.{parent_key}
@@ -17,11 +16,12 @@ use Rattle.bor_store_sql.specs.Texts.Changes.{equals_number, update_day_text, up
 use Rattle.bor_store_sql.proofs.OnTexts.ChangeMeanings.{update_day_is}
 use Rattle.bor_terms.specs.Day.{IsDay}
 use Rattle.bor_store_sql.specs.Rows.Stored.{IsStored}
-use Rattle.bor_store_sql.specs.Rows.Encoding.{Contents, contents, register_columns, tables_version}
+use Rattle.bor_store_sql.specs.Rows.Encoding.{contents, register_columns, tables_version}
 use Rattle.bor_store_sql.specs.Kept.{Keeps}
-use Rattle.bor_store_sql.specs.Shown.{Has}
+use Rattle.bor_store_sql.specs.Shown.{ChangesContents, Has}
 use Rattle.bor_store_sql.specs.Changing.{is_the_one, dated, with_day, IsOneRegister}
 use Rattle.bor_store_sql.proofs.Inserts.{cast_int}
+use Rattle.bor_store_sql.proofs.Moves.{Making}
 use Rattle.bor_store_sql.proofs.Writes.{updates}
 use Rattle.bor_store_sql.proofs.Tables.{updated}
 use Rattle.bor_store_sql.proofs.Selects.{int_test}
@@ -31,14 +31,14 @@ use Rattle.bor_store_sql.proofs.Others.{with_register}
 abbrev works_by : List Row → List Row → Bool → List Work
 works_by olds news none = flat_map (λ child. filter_map (λ ref. work_by 0 0 (pairs olds news) child ref (deed_for Enforced none ref) (parent_key keep_schema.tables ref)) child.references) keep_schema.tables
 
-register_alone : (olds news : List Row) → works keep_schema Enforced 0 0 olds news ≡ []
+pub register_alone : (olds news : List Row) → works keep_schema Enforced 0 0 olds news ≡ []
 register_alone olds news = go (length news == 0)
   where
     go : (b : Bool) → works_by olds news b ≡ []
     go true = refl
     go false = refl
 
-abbrev one_tests : List Term
+abbrev pub one_tests : List Term
 one_tests = equals_number 1 1 ∷ []
 
 abbrev day_terms : List Term
@@ -49,8 +49,8 @@ module _ (day : ℤ) where
   abbrev day_of : Row → Row
   day_of r = column r 0 ∷ column r 0 ∷ column r 1 ∷ column r 2 ∷ Int day ∷ column r 4 ∷ []
 
-  pub day_updated : (old new : State) (count : ℕ) (t : Contents) → Has t old.now → IsOneRegister day t → Executes update_day_text (Int day ∷ []) old new (Ok count) → Has (with_day day t) new.now
-  day_updated old new count t has one h =
+  pub day_updated : Making update_day_text (Int day ∷ []) (ChangesContents (IsOneRegister day) (with_day day))
+  day_updated old new count h t has one =
       let params = Int day ∷ [] in
       let done = updates update_day_text params keep_schema 0 update_day_program register_at update_day_is.0 update_day_is.1 refl register_alone old new count has.schema h in
       let w = done.2 in

@@ -11,8 +11,8 @@ use Rattle.sqlite.proofs.Callers.{reads_as}
 use Rattle.bor_register.specs.Register.{Register}
 use Rattle.bor_store_sql.specs.Texts.Tables.{keep_schema}
 use Rattle.bor_store_sql.specs.Texts.Queries.{shows_rows}
-use Rattle.bor_store_sql.specs.Texts.Meanings.{Asks}
 use Rattle.bor_store_sql.specs.Rows.Encoding.{contents}
+use Rattle.bor_store_sql.specs.Texts.Meanings.{Asks}
 use Rattle.bor_store_sql.specs.Shown.{Has, ShowsIn}
 use Rattle.bor_store_sql.specs.Found.{AnswersQuery, FindsRows, ReadsOnly}
 
@@ -30,18 +30,22 @@ pub known : {X E P : Type 0} (result : Result X E) → P → IfOk result (λ x. 
 known (Ok x) p = p
 known (Err e) p = tt
 
+-- of a register that is shown in this way a text shows these rows
+abbrev pub Gives : (Register → State → Type 0) → List ℕ → Row → (Register → List Row) → Type 1
+Gives IsShown text params rows_of = (r : Register) (old new : State) (rows : List Row) → IsShown r old → Shows text params old new rows → rows ≡ rows_of r
+
 -- what is asked is found, if the query is given what it is said to be given
-pub finds : (text : List ℕ) (params given : Row) (rows_of : Register → List Row) (old new : State) (result : Result (Vec Row Global) Error) → AnswersQuery text given old new result → given ≡ params
-    → ((r : Register) (rows : List Row) → ShowsIn r old → Shows text params old new rows → rows ≡ rows_of r) → FindsRows ShowsIn old new result rows_of
-finds text params given rows_of old new result asked is found = record {
+pub finds : {IsShown : Register → State → Type 0} {text : List ℕ} {params given : Row} {rows_of : Register → List Row} {old new : State} {result : Result (Vec Row Global) Error} → AnswersQuery text given old new result → given ≡ params → Gives IsShown text params rows_of
+    → FindsRows IsShown old new result rows_of
+finds {IsShown} {text} {params} {rows_of = rows_of} {old} {new} {result} asked is gives = record {
   reads = asked.reads;
   settled = asked.settled;
   up = asked.up;
   rows = λ clean r shows. go result r shows (subst (λ row. IfOk result (λ rows. Shows text row old new rows.items)) is (asked.shown clean));
 }
   where
-    go : (result : Result (Vec Row Global) Error) (r : Register) → ShowsIn r old → IfOk result (λ rows. Shows text params old new rows.items) → IfOk result (λ rows. rows.items ≡ rows_of r)
-    go (Ok rows) r shows h = found r rows.items shows h
+    go : (result : Result (Vec Row Global) Error) (r : Register) → IsShown r old → IfOk result (λ rows. Shows text params old new rows.items) → IfOk result (λ rows. rows.items ≡ rows_of r)
+    go (Ok rows) r shows h = gives r old new rows.items shows h
     go (Err e) r shows h = tt
 
 module _ (r : Register) (old new : State) (shows : ShowsIn r old) (settled : old.now ≡ old.committed) where

@@ -27,15 +27,12 @@ pub mod FromTables
 pub mod Selecting
 pub mod Creating
 pub mod Created
-pub mod WholeReads
-pub mod KeyedReads
 pub mod Moves
 pub mod Beside
 pub mod AnySchema
 pub mod Standing
 pub mod Unread
 pub mod AddedBeside
-pub mod CreatedBeside
 pub mod PutBeside
 pub mod Versioning
 pub mod PeriodReads

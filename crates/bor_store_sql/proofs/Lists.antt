@@ -1,81 +1,55 @@
 -- The rows that the loops over a statement's lists, and over statements, have added so far.
 use Rattle.std.specs.Prelude.{is_some, ◌||◌}
-use Rattle.std.proofs.Common.{◌≡◌, true, false, true≢false, refl, Option, Some, None, ℤ, ℕ, ◌+◌, ◌<◌, ◌^◌, Result, Ok, Err, IfOk, subst, List, [], ◌∷◌, ◌++◌, map, take, length, get_or, append-nil, sym, ap, ap₂, ◌∙◌}
-use Rattle.std.specs.List.{flat_map}
-use Rattle.std.proofs.lemmas.List.{map-append, append_assoc}
-use Rattle.std.proofs.lemmas.List.Concat.{flat_map-append}
-use Rattle.sqlite.specs.Order.{Row}
+use Rattle.std.proofs.Common.{◌≡◌, zero, suc, arith, true, false, true≢false, refl, Option, Some, None, ℤ, ℕ, ◌+◌, ◌<◌, ◌^◌, Result, Ok, Err, IfOk, subst, List, [], ◌∷◌, ◌++◌, map, take, length, get_or, append-nil, sym, ap, ap₂, ◌∙◌}
+use Rattle.std.proofs.lemmas.List.{append_assoc}
 use Rattle.bods_read.specs.declared.statement.Statement.{Statement}
 use Rattle.bods_read.specs.declared.details.Identifier.{Identifier}
 use Rattle.bods_read.specs.declared.interest.Interest.{Interest}
 use Rattle.bor_store_sql.specs.declared.rows.places.At.{At}
 use Rattle.bor_store_sql.specs.declared.rows.typed.InterestRow.{InterestRow}
-use Rattle.bor_store_sql.specs.declared.rows.typed.Placed.{Placed}
-use Rattle.bor_store_sql.specs.Rows.Placed.{bare, interests_listed, identifiers_listed, interest_rows, identifier_rows, interests_from, identifiers_from, if_said, period_of, placed_from}
-use Rattle.bor_store_sql.specs.Rows.Encoding.{Contents, statement_columns, interest_columns, identifier_columns, period_columns}
-use Rattle.bor_store_sql.specs.Changing.{days_of, with_period_row, with_period_rows, with_interest_rows, with_identifier_rows, with_one_placed, with_placed}
+use Rattle.bor_store_sql.specs.Rows.Placed.{bare, interests_listed, identifiers_listed, interests_from, identifiers_from, if_said, period_of, placed_from}
+use Rattle.bor_store_sql.specs.Rows.Encoding.{Contents, period_columns}
+use Rattle.bor_store_sql.specs.Changing.{in_turn, with_interest, with_statement_row, with_period_row, with_period_rows, with_interest_rows, with_identifier_rows, with_one_placed, with_placed}
 use Rattle.bor_store_sql.specs.Rows.Stored.{IsCounted}
-use Rattle.bor_store_sql.proofs.Counted.{interests_more, identifiers_more, placed_more}
+use Rattle.bor_store_sql.specs.Fitting.{standing}
 
-pub no_interests : (t : Contents) → t ≡ with_interest_rows [] t
-no_interests t = ap (λ xs. record t { interests = xs }) (sym (append-nil t.interests))
+-- one element more
+one_more_in_turn : {X : Type 0} (change : ℕ → X → Contents → Contents) (n i : ℕ) (xs : List X) (x : X) → i < length xs → x ≡ get_or xs i x → (t : Contents)
+    → change (n + i) x (in_turn change n (take i xs) t) ≡ in_turn change n (take (i + 1) xs) t
+one_more_in_turn change n i [] x lt is t = absurd (omega (arith, lt))
+one_more_in_turn change n zero (y ∷ xs) x lt is t = ap₂ (λ k z. change k z t) (omega arith) is
+one_more_in_turn change n (suc i) (y ∷ xs) x lt is t =
+    let here : n + suc i ≡ (n + 1) + i = omega arith in
+    let next : suc i + 1 ≡ suc (i + 1) = omega arith in
+    ap (λ k. change k x (in_turn change (n + 1) (take i xs) (change n y t))) here
+    ∙ one_more_in_turn change (n + 1) i xs x (omega (arith, lt)) is (change n y t)
+    ∙ sym (ap (λ k. in_turn change n (take k (y ∷ xs)) t) next)
 
-pub no_identifiers : (t : Contents) → t ≡ with_identifier_rows [] t
-no_identifiers t = ap (λ xs. record t { identifiers = xs }) (sym (append-nil t.identifiers))
+pub next_in_turn : {X : Type 0} (change : ℕ → X → Contents → Contents) (i n : ℕ) (xs : List X) (x : X) → i < length xs → x ≡ get_or xs i x → n ≡ i + 1 → (t : Contents) → change n x (in_turn change 1 (take i xs) t) ≡ in_turn change 1 (take (i + 1) xs) t
+next_in_turn change i n xs x lt is e t =
+    let one : n ≡ 1 + i = omega (arith, e) in
+    ap (λ k. change k x (in_turn change 1 (take i xs) t)) one ∙ one_more_in_turn change 1 i xs x lt is t
 
-pub no_periods : (t : Contents) → t ≡ with_period_rows [] t
-no_periods t = ap (λ xs. record t { periods = xs }) (sym (append-nil t.periods))
+identifiers_in_turn : (at : At) (n : ℕ) (xs : List Identifier) (t : Contents) → in_turn (λ k x. with_identifier_rows (record { at = at; item = k; identifier = x } ∷ [])) n xs t ≡ with_identifier_rows (identifiers_from at n xs) t
+identifiers_in_turn at n [] t = simp append-nil
+identifiers_in_turn at n (x ∷ xs) t = identifiers_in_turn at (n + 1) xs (with_identifier_rows (record { at = at; item = n; identifier = x } ∷ []) t) ∙ simp append_assoc
 
-two_parts : {X : Type 0} (f : X → Row) (rows : List Row) (xs ys zs : List X) → xs ++ ys ≡ zs → (rows ++ map f xs) ++ map f ys ≡ rows ++ map f zs
-two_parts f rows xs ys zs e = append_assoc rows (map f xs) (map f ys) ∙ ap (λ l. rows ++ l) (sym (map-append f xs ys) ∙ ap (map f) e)
+interests_in_turn : (at : At) (n : ℕ) (xs : List Interest) (t : Contents)
+    → in_turn (λ k x. with_interest (record { at = at; item = k; interest = x })) n xs t ≡ with_period_rows (interests_from at n xs) (with_interest_rows (interests_from at n xs) t)
+interests_in_turn at n [] t = simp append-nil
+interests_in_turn at n (x ∷ xs) t = interests_in_turn at (n + 1) xs (with_interest (record { at = at; item = n; interest = x }) t) ∙ simp append_assoc
 
-module _ (at : At) (i item : ℕ) where
-  pub interest_added : (xs : List Interest) (x : Interest) → i < length xs → x ≡ get_or xs i x → item ≡ i + 1 → (t : Contents)
-      → with_interest_rows (record { at = at; item = item; interest = x } ∷ []) (with_interest_rows (interests_from at 1 (take i xs)) t) ≡ with_interest_rows (interests_from at 1 (take (i + 1) xs)) t
-  interest_added xs x lt is e t =
-      ap (λ l. record t { interests = l }) (two_parts interest_columns t.interests (interests_from at 1 (take i xs)) _ _ (interests_more at i item xs x lt is e))
+pub placed_in_turn : (agent : List ℕ) (filing n : ℕ) (ss : List Statement) (t : Contents) → in_turn (λ place s. with_one_placed (standing agent filing place s)) n ss t ≡ with_placed (placed_from agent filing n ss) t
+placed_in_turn agent filing n [] t = simp append-nil
+placed_in_turn agent filing n (s ∷ ss) t = placed_in_turn agent filing (n + 1) ss (with_one_placed (standing agent filing n s) t) ∙ simp append_assoc
 
-  pub period_added : (xs : List Interest) (x : Interest) → i < length xs → x ≡ get_or xs i x → item ≡ i + 1 → (t : Contents)
-      → with_period_rows (record { at = at; item = item; interest = x } ∷ []) (with_period_rows (interests_from at 1 (take i xs)) t) ≡ with_period_rows (interests_from at 1 (take (i + 1) xs)) t
-  period_added xs x lt is e t =
-      let so_far = interests_from at 1 (take i xs) in
-      let row : InterestRow = record { at = at; item = item; interest = x } in
-      ap (λ l. record t { periods = l })
-      (append_assoc t.periods (flat_map days_of so_far) (flat_map days_of (row ∷ []))
-      ∙ ap (λ l. t.periods ++ l) (sym (flat_map-append days_of so_far (row ∷ [])) ∙ ap (flat_map days_of) (interests_more at i item xs x lt is e)))
-
-  pub identifier_added : (xs : List Identifier) (x : Identifier) → i < length xs → x ≡ get_or xs i x → item ≡ i + 1 → (t : Contents)
-      → with_identifier_rows (record { at = at; item = item; identifier = x } ∷ []) (with_identifier_rows (identifiers_from at 1 (take i xs)) t) ≡ with_identifier_rows (identifiers_from at 1 (take (i + 1) xs)) t
-  identifier_added xs x lt is e t =
-      ap (λ l. record t { identifiers = l }) (two_parts identifier_columns t.identifiers (identifiers_from at 1 (take i xs)) _ _ (identifiers_more at i item xs x lt is e))
-
-pub no_placed : (t : Contents) → t ≡ with_placed [] t
-no_placed t =
-    ap (λ xs. record t { statements = xs }) (sym (append-nil t.statements))
-    ∙ ap₂ (λ xs ys. record t { statements = t.statements ++ []; interests = xs; identifiers = ys }) (sym (append-nil t.interests)) (sym (append-nil t.identifiers))
-    ∙ ap (λ xs. record t { statements = t.statements ++ []; interests = t.interests ++ []; identifiers = t.identifiers ++ []; periods = xs }) (sym (append-nil t.periods))
-
-flat_parts : {X : Type 0} (g : X → List Row) (rows : List Row) (xs zs : List X) (y : X) → xs ++ y ∷ [] ≡ zs → (rows ++ flat_map g xs) ++ g y ≡ rows ++ flat_map g zs
-flat_parts g rows xs zs y e =
-    append_assoc rows (flat_map g xs) (g y) ∙ ap (λ l. rows ++ l) (ap (λ l. flat_map g xs ++ l) (sym (append-nil (g y))) ∙ sym (flat_map-append g xs (y ∷ [])) ∙ ap (flat_map g) e)
-
-pub placed_added : (agent : List ℕ) (filing i place : ℕ) (xs : List Statement) (x : Statement) → i < length xs → x ≡ get_or xs i x → place ≡ i + 1 → (t : Contents)
-    → with_one_placed (record { at = record { agent = agent; filing = filing; place = place }; statement = x }) (with_placed (placed_from agent filing 1 (take i xs)) t) ≡ with_placed (placed_from agent filing 1 (take (i + 1) xs)) t
-placed_added agent filing i place xs x lt is e t =
-    let p : Placed = record { at = record { agent = agent; filing = filing; place = place }; statement = x } in
-    let before = placed_from agent filing 1 (take i xs) in
-    let after = placed_from agent filing 1 (take (i + 1) xs) in
-    let more = placed_more agent filing i place xs x lt is e in
-    let interests_at : Placed → List Row = λ p. map interest_columns (interest_rows p) in
-    let identifiers_at : Placed → List Row = λ p. map identifier_columns (identifier_rows p) in
-    let periods_at : Placed → List Row = λ p. flat_map days_of (interest_rows p) in
-    let rows = t.statements ++ map (λ p. statement_columns (bare p)) after in
-    ap (λ l. record t { statements = l; interests = (t.interests ++ flat_map interests_at before) ++ interests_at p; identifiers = (t.identifiers ++ flat_map identifiers_at before) ++ identifiers_at p; periods = (t.periods ++ flat_map periods_at before) ++ periods_at p })
-    (two_parts (λ (p : Placed). statement_columns (bare p)) t.statements before (p ∷ []) after more)
-    ∙ ap₂ (λ k l. record t { statements = rows; interests = k; identifiers = l; periods = (t.periods ++ flat_map periods_at before) ++ periods_at p })
-    (flat_parts interests_at t.interests before after p more)
-    (flat_parts identifiers_at t.identifiers before after p more)
-    ∙ ap (λ l. record t { statements = rows; interests = t.interests ++ flat_map interests_at after; identifiers = t.identifiers ++ flat_map identifiers_at after; periods = l }) (flat_parts periods_at t.periods before after p more)
+-- the rows of a statement, as its lists are put down
+pub placed_at_once : (at : At) (s : Statement) (ids : List Identifier) (is : List Interest) → ids ≡ identifiers_listed s.details → is ≡ interests_listed s.details → (t : Contents)
+    → in_turn (λ k x. with_interest (record { at = at; item = k; interest = x })) 1 is (in_turn (λ k x. with_identifier_rows (record { at = at; item = k; identifier = x } ∷ [])) 1 ids (with_statement_row (bare (record { at = at; statement = s })) t))
+    ≡ with_one_placed (record { at = at; statement = s }) t
+placed_at_once at s ids is same_ids same_is t =
+    interests_in_turn at 1 is _ ∙ ap (λ x. with_period_rows (interests_from at 1 is) (with_interest_rows (interests_from at 1 is) x)) (identifiers_in_turn at 1 ids _)
+    ∙ ap₂ (λ x y. with_period_rows (interests_from at 1 y) (with_interest_rows (interests_from at 1 y) (with_identifier_rows (identifiers_from at 1 x) (with_statement_row (bare (record { at = at; statement = s })) t)))) same_ids same_is
 
 -- a statement whose lists are inserted is counted
 pub counted : {E : Type 0} (s : Statement) (ids : List Identifier) (is : List Interest) (result : Result (Unit {0}) E) → ids ≡ identifiers_listed s.details → is ≡ interests_listed s.details → length ids < 2 ^ 32
@@ -100,9 +74,4 @@ module _ (i : InterestRow) where
   one_said e t = ap (λ l. record t { periods = t.periods ++ (map period_columns l ++ []) }) (sym (said_one i.interest.starts i.interest.ends e))
 
   pub none_said : (is_some i.interest.starts || is_some i.interest.ends) ≡ false → (t : Contents) → t ≡ with_period_rows (i ∷ []) t
-  none_said e t = no_periods t ∙ ap (λ l. record t { periods = t.periods ++ (map period_columns l ++ []) }) (sym (said_none i.interest.starts i.interest.ends e))
-
--- what is known holds where the answer is Ok
-pub where_ok : {X E P : Type 0} (result : Result X E) → P → IfOk result (λ x. P)
-where_ok (Ok x) p = p
-where_ok (Err e) p = tt
+  none_said e t = ap (λ l. record t { periods = l }) (sym (append-nil t.periods)) ∙ ap (λ l. record t { periods = t.periods ++ (map period_columns l ++ []) }) (sym (said_none i.interest.starts i.interest.ends e))

@@ -1,8 +1,7 @@
 -- The rows that the queries on days of interests find, and the one on files.
-use Rattle.std.proofs.Common.{◌≡◌, ℕ, ℤ, pos, Bool, true, false, cond, ◌&&◌, Option, Some, None, List, [], ◌∷◌, ◌++◌, map, filter, Vec, Result, refl, sym, ap, ap₂, ◌∙◌}
+use Rattle.std.proofs.Common.{◌≡◌, ℕ, ℤ, pos, Bool, true, false, cond, ◌&&◌, Option, Some, None, List, [], ◌∷◌, ◌++◌, map, filter, refl, sym, ap, ap₂, ◌∙◌}
 use Rattle.std.specs.Prelude.{is_some, ◌||◌}
 use Rattle.std.specs.List.{flat_map}
-use Rattle.std.specs.declared.alloc.Global.{Global}
 use Rattle.std.proofs.Math.Bool.{and-true}
 use Rattle.std.proofs.lemmas.List.{map-append}
 use Rattle.std.proofs.lemmas.List.Concat.{flat_map-append}
@@ -10,14 +9,11 @@ use Rattle.sqlite.specs.Order.{Row}
 use Rattle.sqlite.specs.Query.{output}
 use Rattle.sqlite.specs.State.{State}
 use Rattle.sqlite.specs.Term.{Term}
-use Rattle.sqlite.specs.declared.error.Error.{Error}
-use Rattle.sqlite.specs.declared.types.Value.TheVariants.{Null, Int, Text}
+use Rattle.sqlite.specs.declared.types.Value.TheVariants.{Null, Int}
 use Rattle.sqlite_keyed.proofs.ListLemmas.{ascending-filter}
-use Rattle.sqlite_tied.specs.Compute.{everything}
 use Rattle.bor_register.specs.Register.{Register}
 use Rattle.bor_register.specs.declared.member.Member.{Member}
-use Rattle.bor_store_sql.specs.Texts.Meanings.{Asks}
-use Rattle.bor_store_sql.specs.Texts.Queries.{all_periods_query, all_periods_text, file_by_number_text, periods_of_statement_query, periods_of_statement_text, rising, shows_rows, table_query}
+use Rattle.bor_store_sql.specs.Texts.Queries.{all_periods_query, all_periods_text, periods_of_statement_query, periods_of_statement_text, rising, shows_rows, table_query}
 use Rattle.bor_store_sql.proofs.OnTexts.QueryMeanings.{all_periods_is, periods_of_statement_is}
 use Rattle.bor_store_sql.specs.Rows.Encoding.{contents, period_columns}
 use Rattle.bor_store_sql.specs.Rows.Placed.{if_said, interest_rows, interests_listed, period_of, period_rows, placed, same_place}
@@ -26,27 +22,14 @@ use Rattle.bor_store_sql.specs.declared.rows.typed.InterestRow.{InterestRow}
 use Rattle.bor_store_sql.specs.declared.rows.typed.PeriodRow.{PeriodRow}
 use Rattle.bor_store_sql.specs.declared.rows.typed.Placed.{Placed}
 use Rattle.bor_store_sql.specs.Changing.{days_of, row_passes}
-use Rattle.bor_store_sql.specs.Found.{AnswersQuery, FindsRows, IsQuery}
 use Rattle.bor_store_sql.specs.Selected.{interests_at}
+use Rattle.bor_store_sql.proofs.Plain.{IsSelect}
 use Rattle.bor_store_sql.specs.Shown.{ShowsIn}
-use Rattle.bor_store_sql.proofs.Finding.{Shows, answers, finds, has_now}
+use Rattle.bor_store_sql.proofs.Finding.{Gives, Shows, answers, has_now}
 use Rattle.bor_store_sql.proofs.Orders.{IsInterestBefore, interest_rows_rise}
 use Rattle.bor_store_sql.proofs.Picking.{all_pass, picked_rows}
-use Rattle.bor_store_sql.proofs.Plain.{understood_never}
 use Rattle.bor_store_sql.proofs.Selects.{env, int_test, keeps, text_test}
-use Rattle.bor_store_sql.proofs.Selecting.{interests_stand, number_test, rows_at}
-
-pub all_periods_asks : IsQuery all_periods_text
-unfolding everything
-all_periods_asks schema = understood_never schema all_periods_text refl
-
-pub periods_of_statement_asks : IsQuery periods_of_statement_text
-unfolding everything
-periods_of_statement_asks schema = understood_never schema periods_of_statement_text refl
-
-pub file_by_number_asks : IsQuery file_by_number_text
-unfolding everything
-file_by_number_asks schema = understood_never schema file_by_number_text refl
+use Rattle.bor_store_sql.proofs.Selecting.{interests_stand, number_test, place_params, rows_at}
 
 -- ---- the interests of which a day is said
 
@@ -97,7 +80,7 @@ in_turn p q (x ∷ xs) = go (p x) (q x) refl refl (in_turn p q xs)
 
 module _ (r : Register) (old new : State) (shows : ShowsIn r old) (rows : List Row) where
   from_periods : (text : List ℕ) (params : Row) (names : List (List ℕ)) (tests project : List Term) (h : Shows text params old new rows) (p : InterestRow → Bool) → ((i : InterestRow) → row_passes tests params (day_columns i) ≡ p i)
-      → Asks text (shows_rows (table_query 19 tests project (rising 1 ∷ rising 2 ∷ rising 3 ∷ rising 4 ∷ [])) names)
+      → IsSelect text (shows_rows (table_query 19 tests project (rising 1 ∷ rising 2 ∷ rising 3 ∷ rising 4 ∷ [])) names)
       → ((id : ℕ) (x : Row) → keeps 19 tests params (Int (pos id) ∷ x) ≡ row_passes tests params x)
       → ((id : ℕ) (x : Row) → output (table_query 19 tests project (rising 1 ∷ rising 2 ∷ rising 3 ∷ rising 4 ∷ [])) (env 19 tests params (Int (pos id) ∷ x)) ≡ output (table_query 19 tests project (rising 1 ∷ rising 2 ∷ rising 3 ∷ rising 4 ∷ [])) (params ∷ (Null ∷ x) ∷ []))
       → ((i : InterestRow) → (output (table_query 19 tests project (rising 1 ∷ rising 2 ∷ rising 3 ∷ rising 4 ∷ [])) (params ∷ (Null ∷ day_columns i) ∷ [])).1 ≡ day_columns i)
@@ -105,31 +88,19 @@ module _ (r : Register) (old new : State) (shows : ShowsIn r old) (rows : List R
   from_periods text params names tests project h p same asks same_test same_out same_shown =
       picked_rows 19 refl tests params project (rising 1 ∷ rising 2 ∷ rising 3 ∷ rising 4 ∷ []) same_test day_columns day_columns p same (filter is_said (all_interests r.members)) old.now.trees (contents r).periods rows (table_is r.members)
       (has_now r old new shows h.0).periods same_out same_shown
-      (answers r old new shows h.0 text params (table_query 19 tests project (rising 1 ∷ rising 2 ∷ rising 3 ∷ rising 4 ∷ [])) names asks rows h.1) IsInterestBefore (λ a b lt. lt)
+      (answers r old new shows h.0 text params (table_query 19 tests project (rising 1 ∷ rising 2 ∷ rising 3 ∷ rising 4 ∷ [])) names asks.asks rows h.1) IsInterestBefore (λ a b lt. lt)
       (ascending-filter IsInterestBefore p (filter is_said (all_interests r.members)) (ascending-filter IsInterestBefore is_said (all_interests r.members) (interest_rows_rise r.members shows.stored.ordered shows.stored.numbered)))
 
-  all_periods_found : Shows all_periods_text [] old new rows → rows ≡ map period_columns (flat_map period_rows (flat_map interest_rows (placed r.members)))
-  all_periods_found h =
-      from_periods all_periods_text [] _ all_periods_query.filter all_periods_query.project h (λ i. true) (λ i. refl) all_periods_is (λ id x. refl) (λ id x. refl) (λ i. refl)
-      ∙ ap (map day_columns) (all_pass (filter is_said (all_interests r.members))) ∙ sym (listed (all_interests r.members))
+pub all_periods_found : Gives ShowsIn all_periods_text [] (λ r. map period_columns (flat_map period_rows (flat_map interest_rows (placed r.members))))
+all_periods_found r old new rows shows h =
+    from_periods r old new shows rows all_periods_text [] _ all_periods_query.filter all_periods_query.project h (λ i. true) (λ i. refl) all_periods_is (λ id x. refl) (λ id x. refl) (λ i. refl)
+    ∙ ap (map day_columns) (all_pass (filter is_said (all_interests r.members))) ∙ sym (listed (all_interests r.members))
 
-  periods_of_statement_found : (at : At) → Shows periods_of_statement_text (Text at.agent ∷ Int (pos at.filing) ∷ Int (pos at.place) ∷ []) old new rows → rows ≡ map period_columns (flat_map period_rows (interests_at at r.members))
-  periods_of_statement_found at h =
-      from_periods periods_of_statement_text (Text at.agent ∷ Int (pos at.filing) ∷ Int (pos at.place) ∷ []) _ periods_of_statement_query.filter periods_of_statement_query.project h (λ i. same_place i.at at)
-      (λ i. ap₂ (λ x y. x && y) (text_test i.at.agent at.agent) (ap₂ (λ x y. x && y) (int_test (pos i.at.filing) (pos at.filing) ∙ number_test i.at.filing at.filing) (and-true _ ∙ int_test (pos i.at.place) (pos at.place) ∙ number_test i.at.place at.place)))
-      periods_of_statement_is (λ id x. refl) (λ id x. refl) (λ i. refl)
-      ∙ ap (map day_columns) (in_turn (λ (i : InterestRow). same_place i.at at) is_said (all_interests r.members)
-      ∙ ap (filter is_said) (rows_at (λ (i : InterestRow). i.at) (λ a. same_place a at) interest_rows (λ p. interests_stand p.at 1 (interests_listed p.statement.details)) (placed r.members)))
-      ∙ sym (listed (interests_at at r.members))
-
--- ---- each finds what it is said to find
-
-pub all_periods_finds : (given : Row) (old new : State) (result : Result (Vec Row Global) Error) → AnswersQuery all_periods_text given old new result → given ≡ [] → FindsRows ShowsIn old new result (λ r. map period_columns (flat_map period_rows (flat_map interest_rows (placed r.members))))
-all_periods_finds given old new result asked is =
-    finds all_periods_text [] given (λ r. map period_columns (flat_map period_rows (flat_map interest_rows (placed r.members)))) old new result asked is (λ r rows shows h. all_periods_found r old new shows rows h)
-
-pub periods_of_statement_finds : (agent : List ℕ) (number place : ℕ) (old new : State) (result : Result (Vec Row Global) Error) → AnswersQuery periods_of_statement_text (Text agent ∷ Int (pos number) ∷ Int (pos place) ∷ []) old new result
-    → FindsRows ShowsIn old new result (λ r. map period_columns (flat_map period_rows (interests_at (record { agent = agent; filing = number; place = place }) r.members)))
-periods_of_statement_finds agent number place old new result asked =
-    finds periods_of_statement_text (Text agent ∷ Int (pos number) ∷ Int (pos place) ∷ []) (Text agent ∷ Int (pos number) ∷ Int (pos place) ∷ []) (λ r. map period_columns (flat_map period_rows (interests_at (record { agent = agent; filing = number; place = place }) r.members)))
-    old new result asked refl (λ r rows shows h. periods_of_statement_found r old new shows rows (record { agent = agent; filing = number; place = place }) h)
+pub periods_of_statement_found : (at : At) → Gives ShowsIn periods_of_statement_text (place_params at) (λ r. map period_columns (flat_map period_rows (interests_at at r.members)))
+periods_of_statement_found at r old new rows shows h =
+    from_periods r old new shows rows periods_of_statement_text (place_params at) _ periods_of_statement_query.filter periods_of_statement_query.project h (λ i. same_place i.at at)
+    (λ i. ap₂ (λ x y. x && y) (text_test i.at.agent at.agent) (ap₂ (λ x y. x && y) (int_test (pos i.at.filing) (pos at.filing) ∙ number_test i.at.filing at.filing) (and-true _ ∙ int_test (pos i.at.place) (pos at.place) ∙ number_test i.at.place at.place)))
+    periods_of_statement_is (λ id x. refl) (λ id x. refl) (λ i. refl)
+    ∙ ap (map day_columns) (in_turn (λ (i : InterestRow). same_place i.at at) is_said (all_interests r.members)
+    ∙ ap (filter is_said) (rows_at (λ (i : InterestRow). i.at) (λ a. same_place a at) interest_rows (λ p. interests_stand p.at 1 (interests_listed p.statement.details)) (placed r.members)))
+    ∙ sym (listed (interests_at at r.members))

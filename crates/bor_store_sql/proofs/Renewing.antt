@@ -1,5 +1,5 @@
 -- The effects of the UPDATE of an agent's token.
-use Rattle.std.proofs.Common.{◌≡◌, ◌≤◌, ℕ, pos, Bool, true, false, cond, List, [], ◌∷◌, ◌++◌, map, filter, length, drop, ◌==◌, Ok, arith, refl, sym, ap, subst, ◌∙◌}
+use Rattle.std.proofs.Common.{◌≡◌, ◌≤◌, ℕ, pos, Bool, true, false, cond, List, [], ◌∷◌, ◌++◌, map, filter, length, drop, ◌==◌, arith, refl, sym, ap, subst, ◌∙◌}
 use Rattle.std.specs.Prelude.{if◌then◌else◌, All}
 use Rattle.std.specs.List.{AllByRecursion, flat_map, filter_map}
 use Rattle.std.proofs.Math.Bool.{and-true}
@@ -7,7 +7,6 @@ use Rattle.std.proofs.lemmas.List.Elements.{All-cons, All-head, All-tail}
 use Rattle.sqlite.specs.declared.types.Value.TheVariants.{Null, Text}
 use Rattle.sqlite.specs.Order.{Row, column}
 use Rattle.sqlite.specs.Term.{Term, col}
-use Rattle.sqlite.specs.State.{State, Executes}
 use Rattle.sqlite.specs.Effect.{Database}
 use Rattle.sqlite_rules.specs.Action.{Work, works, work_by, pairs, deed_for}
 use Rattle.sqlite_schema.specs.Rules.{parent_key}
@@ -26,11 +25,12 @@ use Rattle.bor_store_sql.specs.Texts.Changes.{update_token_text, update_token_pr
 use Rattle.bor_store_sql.proofs.OnTexts.ChangeMeanings.{update_token_is}
 use Rattle.bor_store_sql.specs.Rows.Placed.{bare, placed, placed_by, interest_rows, identifier_rows}
 use Rattle.bor_store_sql.specs.Rows.Stored.{AllNumbered, AreCounted, IsStored}
-use Rattle.bor_store_sql.specs.Rows.Encoding.{Contents, contents, agent_columns, filing_columns, filing_rows, statement_columns, interest_columns, identifier_columns}
+use Rattle.bor_store_sql.specs.Rows.Encoding.{contents, agent_columns, filing_columns, filing_rows, statement_columns, interest_columns, identifier_columns}
 use Rattle.bor_store_sql.specs.Kept.{Keeps}
-use Rattle.bor_store_sql.specs.Shown.{Has}
+use Rattle.bor_store_sql.specs.Shown.{ChangesContents, Has}
 use Rattle.bor_store_sql.specs.Changing.{days_of, is_of_agent, renewed, with_token_row, IsOneAgent}
 use Rattle.bor_store_sql.proofs.Inserts.{cast_int}
+use Rattle.bor_store_sql.proofs.Moves.{Making}
 use Rattle.bor_store_sql.proofs.Writes.{updates}
 use Rattle.bor_store_sql.proofs.Tables.{updated}
 use Rattle.bor_store_sql.proofs.Selects.{text_test}
@@ -83,8 +83,8 @@ module _ (agent token : List ℕ) where
   abbrev token_of : Row → Row
   token_of r = column r 0 ∷ column r 0 ∷ column r 1 ∷ Text token ∷ []
 
-  pub token_updated : (old new : State) (count : ℕ) (t : Contents) → Has t old.now → IsOneAgent agent t → Executes update_token_text token_params old new (Ok count) → Has (with_token_row agent token t) new.now
-  token_updated old new count t has one h =
+  pub token_updated : Making update_token_text token_params (ChangesContents (IsOneAgent agent) (with_token_row agent token))
+  token_updated old new count h t has one =
       let done = updates update_token_text token_params keep_schema 1 update_token_program agent_at update_token_is.0 update_token_is.1 refl agent_alone old new count has.schema h in
       let w = done.2 in
       with_agents t old.now new.now w.sound w.schema_is has w.others _

@@ -1,19 +1,16 @@
 -- The effects of the UPDATE of the version.
-use Rattle.std.proofs.Common.{◌≡◌, ◌≤◌, ℕ, ℤ, pos, Bool, true, false, cond, List, [], ◌∷◌, length, drop, ◌++◌, ◌==◌, map, Ok, arith, refl, ap, ap₂, subst, ◌∙◌}
-use Rattle.std.specs.List.{flat_map, filter_map}
+use Rattle.std.proofs.Common.{◌≡◌, ◌≤◌, ℕ, ℤ, pos, Bool, true, false, cond, List, [], ◌∷◌, length, drop, ◌++◌, map, Ok, arith, refl, ap, ap₂, subst, ◌∙◌}
+use Rattle.std.specs.List.{flat_map}
 use Rattle.std.proofs.Math.Bool.{and-true}
 use Rattle.sqlite.specs.declared.types.Value.TheVariants.{Null, Int}
 use Rattle.sqlite.specs.Order.{Row, column}
 use Rattle.sqlite.specs.Term.{Term, col}
 use Rattle.sqlite.specs.State.{State, Executes}
 use Rattle.sqlite.specs.Effect.{Database}
-use Rattle.sqlite_rules.specs.Action.{Work, works, work_by, pairs, deed_for}
-use Rattle.sqlite_schema.specs.Rules.{parent_key}
 use Rattle.sqlite_rules.specs.Cast.{cast_row}
-use Rattle.sqlite_schema.specs.declared.schema.Keys.TheVariants.{Enforced}
 use Rattle.bor_register.specs.Register.{Register}
 use Rattle.bor_store_sql.specs.Texts.Tables.{keep_schema, register_at}
-use Rattle.bor_store_sql.specs.Texts.Changes.{equals_number, update_version_program, update_version_text}
+use Rattle.bor_store_sql.specs.Texts.Changes.{update_version_program, update_version_text}
 use Rattle.bor_store_sql.specs.Rows.Encoding.{Contents, contents, first_version, period_columns, register_columns, tables_version, versioned_columns}
 use Rattle.bor_store_sql.specs.Rows.Placed.{interest_rows, period_rows, placed, register_row}
 use Rattle.bor_store_sql.specs.declared.rows.typed.PeriodRow.{PeriodRow}
@@ -21,6 +18,7 @@ use Rattle.bor_store_sql.specs.declared.rows.typed.Placed.{Placed}
 use Rattle.bor_store_sql.specs.Changing.{all_periods}
 use Rattle.std.proofs.lemmas.List.{map-append}
 use Rattle.sqlite_keyed.proofs.ListLemmas.{map-flat_map}
+use Rattle.bor_store_sql.proofs.Dating.{one_tests, register_alone}
 use Rattle.bor_store_sql.proofs.Inserts.{cast_int}
 use Rattle.bor_store_sql.proofs.Writes.{updates}
 use Rattle.bor_store_sql.proofs.Tables.{updated}
@@ -29,20 +27,6 @@ use Rattle.bor_store_sql.specs.Moving.{IsOneVersion, is_the_row, versioned, with
 use Rattle.bor_store_sql.specs.Shown.{Has, first_contents}
 use Rattle.bor_store_sql.proofs.Others.{with_register}
 use Rattle.bor_store_sql.proofs.OnTexts.ChangeMeanings.{update_version_is}
-
--- no key acts where the register's row changes
-abbrev works_by : List Row → List Row → Bool → List Work
-works_by olds news none = flat_map (λ child. filter_map (λ ref. work_by 0 0 (pairs olds news) child ref (deed_for Enforced none ref) (parent_key keep_schema.tables ref)) child.references) keep_schema.tables
-
-register_alone : (olds news : List Row) → works keep_schema Enforced 0 0 olds news ≡ []
-register_alone olds news = go (length news == 0)
-  where
-    go : (b : Bool) → works_by olds news b ≡ []
-    go true = refl
-    go false = refl
-
-abbrev one_tests : List Term
-one_tests = equals_number 1 1 ∷ []
 
 abbrev version_terms : List Term
 version_terms = col 1 0 ∷ col 1 0 ∷ col 1 1 ∷ col 0 0 ∷ col 1 3 ∷ col 1 4 ∷ []

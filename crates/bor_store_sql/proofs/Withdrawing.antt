@@ -1,11 +1,9 @@
 -- The effects of the statements of a withdrawal.
-use Rattle.std.proofs.Common.{◌≡◌, ℕ, pos, Bool, true, false, List, [], ◌∷◌, length, drop, Ok, Result, ◌==◌, refl}
+use Rattle.std.proofs.Common.{◌≡◌, ℕ, pos, Bool, true, false, List, [], ◌∷◌, length, drop, ◌==◌, refl}
 use Rattle.sqlite.specs.declared.types.Value.TheVariants.{Null, Int, Text}
 use Rattle.sqlite.specs.Order.{Row, column}
 use Rattle.std.specs.List.{flat_map, filter_map}
 use Rattle.sqlite.specs.Term.{Term, col, lit}
-use Rattle.sqlite.specs.State.{State, Executes}
-use Rattle.sqlite.specs.declared.error.Error.{Error}
 use Rattle.sqlite_rules.specs.Action.{Work, works, work_by, pairs, deed_for}
 use Rattle.sqlite_schema.specs.Rules.{parent_key}
 use Rattle.sqlite_rules.specs.Cast.{cast_row}
@@ -14,12 +12,10 @@ use Rattle.bor_store_sql.specs.Texts.Tables.{keep_schema, filing_at, statement_a
 use Rattle.bor_store_sql.specs.Texts.Queries.{equals}
 use Rattle.bor_store_sql.specs.Texts.Changes.{mark_withdrawn_text, mark_withdrawn_program, delete_identifiers_text, delete_identifiers_program, delete_interests_text, delete_interests_program, delete_periods_text, delete_periods_program, delete_statements_text, delete_statements_program}
 use Rattle.bor_store_sql.proofs.OnTexts.ChangeMeanings.{mark_withdrawn_is, delete_identifiers_is, delete_interests_is, delete_periods_is, delete_statements_is}
-use Rattle.bor_store_sql.specs.Rows.Encoding.{Contents}
-use Rattle.bor_store_sql.specs.Ran.{Ran}
-use Rattle.bor_store_sql.specs.Shown.{ChangesContents, Has, StepsTo}
+use Rattle.bor_store_sql.specs.Shown.{ChangesContents}
 use Rattle.bor_store_sql.specs.Changing.{Any, is_of_filing, marked, with_mark, IsOnce, without_identifiers, without_interests, without_periods, without_statements}
 use Rattle.bor_store_sql.proofs.Inserts.{cast_int}
-use Rattle.bor_store_sql.proofs.Moves.{moves_by}
+use Rattle.bor_store_sql.proofs.Moves.{Making}
 use Rattle.bor_store_sql.proofs.Writes.{deletes, updates}
 use Rattle.bor_store_sql.proofs.Tables.{deleted, updated}
 use Rattle.bor_store_sql.proofs.Others.{with_filings, with_statements, with_interests, with_identifiers, with_periods}
@@ -48,60 +44,42 @@ mark_of r = column r 0 ∷ column r 0 ∷ column r 1 ∷ column r 2 ∷ column r
 abbrev filing_params : List ℕ → ℕ → Row
 filing_params agent number = Text agent ∷ Int (pos number) ∷ []
 
-module _ (agent : List ℕ) (number : ℕ) (old new : State) (count : ℕ) (t : Contents) (has : Has t old.now) where
+module _ (agent : List ℕ) (number : ℕ) where
   abbrev params : Row
   params = filing_params agent number
 
-  pub identifiers_deleted : Executes delete_identifiers_text params old new (Ok count) → Has (without_identifiers agent number t) new.now
-  identifiers_deleted h =
+  pub identifiers_deleted : Making delete_identifiers_text params (ChangesContents Any (without_identifiers agent number))
+  identifiers_deleted old new count h t has fit =
       let done = deletes delete_identifiers_text params keep_schema 5 delete_identifiers_program identifier_at delete_identifiers_is.0 delete_identifiers_is.1 refl (λ olds. refl) old new count has.schema h in
       let w = done.2 in
       with_identifiers t old.now new.now w.sound w.schema_is has w.others _
       (deleted 13 refl filing_tests params (is_of_filing agent number) (λ id x. refl) old.now.trees t.identifiers done.0 (new.now.trees 13) has.identifiers (done.1.answer Null) w.rows)
 
-  pub periods_deleted : Executes delete_periods_text params old new (Ok count) → Has (without_periods agent number t) new.now
-  periods_deleted h =
+  pub periods_deleted : Making delete_periods_text params (ChangesContents Any (without_periods agent number))
+  periods_deleted old new count h t has fit =
       let done = deletes delete_periods_text params keep_schema 6 delete_periods_program period_at delete_periods_is.0 delete_periods_is.1 refl (λ olds. refl) old new count has.schema h in
       let w = done.2 in
       with_periods t old.now new.now w.sound w.schema_is has w.others _
       (deleted 19 refl filing_tests params (is_of_filing agent number) (λ id x. refl) old.now.trees t.periods done.0 (new.now.trees 19) has.periods (done.1.answer Null) w.rows)
 
-  pub interests_deleted : Executes delete_interests_text params old new (Ok count) → Has (without_interests agent number t) new.now
-  interests_deleted h =
+  pub interests_deleted : Making delete_interests_text params (ChangesContents Any (without_interests agent number))
+  interests_deleted old new count h t has fit =
       let done = deletes delete_interests_text params keep_schema 4 delete_interests_program interest_at delete_interests_is.0 delete_interests_is.1 refl (λ olds. refl) old new count has.schema h in
       let w = done.2 in
       with_interests t old.now new.now w.sound w.schema_is has w.others _
       (deleted 11 refl filing_tests params (is_of_filing agent number) (λ id x. refl) old.now.trees t.interests done.0 (new.now.trees 11) has.interests (done.1.answer Null) w.rows)
 
-  pub statements_deleted : Executes delete_statements_text params old new (Ok count) → Has (without_statements agent number t) new.now
-  statements_deleted h =
+  pub statements_deleted : Making delete_statements_text params (ChangesContents Any (without_statements agent number))
+  statements_deleted old new count h t has fit =
       let done = deletes delete_statements_text params keep_schema 3 delete_statements_program statement_at delete_statements_is.0 delete_statements_is.1 refl (λ olds. refl) old new count has.schema h in
       let w = done.2 in
       with_statements t old.now new.now w.sound w.schema_is has w.others _
       (deleted 8 refl filing_tests params (is_of_filing agent number) (λ id x. refl) old.now.trees t.statements done.0 (new.now.trees 8) has.statements (done.1.answer Null) w.rows)
 
-  pub filing_marked : IsOnce agent number t → Executes mark_withdrawn_text params old new (Ok count) → Has (with_mark agent number t) new.now
-  filing_marked once h =
+  pub filing_marked : Making mark_withdrawn_text params (ChangesContents (IsOnce agent number) (with_mark agent number))
+  filing_marked old new count h t has once =
       let done = updates mark_withdrawn_text params keep_schema 2 mark_withdrawn_program filing_at mark_withdrawn_is.0 mark_withdrawn_is.1 refl filing_alone old new count has.schema h in
       let w = done.2 in
       with_filings t old.now new.now w.sound w.schema_is has w.others _
       (updated 5 refl filing_tests params (is_of_filing agent number) (λ id x. refl) mark_terms mark_of (λ s. cast_row filing_at (drop 1 s)) marked
       (λ r. refl) (λ id x. refl) (λ id x. rw (cast_int (pos id)) refl) old.now.trees t.filings done.0 (new.now.trees 5) has.filings once (done.1.answer Null) w.rows_are)
-
--- ---- each as a step of the transaction
-
-module _ (agent : List ℕ) (number : ℕ) (old new : State) (result : Result (Unit {0}) Error) where
-  pub identifiers_gone : Ran delete_identifiers_text (filing_params agent number) old new result → StepsTo Any (without_identifiers agent number) old new result
-  identifiers_gone ran = moves_by (ChangesContents Any (without_identifiers agent number)) delete_identifiers_text (filing_params agent number) (filing_params agent number) old new result ran refl (λ count h t has fit. identifiers_deleted agent number old new count t has h)
-
-  pub periods_gone : Ran delete_periods_text (filing_params agent number) old new result → StepsTo Any (without_periods agent number) old new result
-  periods_gone ran = moves_by (ChangesContents Any (without_periods agent number)) delete_periods_text (filing_params agent number) (filing_params agent number) old new result ran refl (λ count h t has fit. periods_deleted agent number old new count t has h)
-
-  pub interests_gone : Ran delete_interests_text (filing_params agent number) old new result → StepsTo Any (without_interests agent number) old new result
-  interests_gone ran = moves_by (ChangesContents Any (without_interests agent number)) delete_interests_text (filing_params agent number) (filing_params agent number) old new result ran refl (λ count h t has fit. interests_deleted agent number old new count t has h)
-
-  pub statements_gone : Ran delete_statements_text (filing_params agent number) old new result → StepsTo Any (without_statements agent number) old new result
-  statements_gone ran = moves_by (ChangesContents Any (without_statements agent number)) delete_statements_text (filing_params agent number) (filing_params agent number) old new result ran refl (λ count h t has fit. statements_deleted agent number old new count t has h)
-
-  pub mark_made : Ran mark_withdrawn_text (filing_params agent number) old new result → StepsTo (IsOnce agent number) (with_mark agent number) old new result
-  mark_made ran = moves_by (ChangesContents (IsOnce agent number) (with_mark agent number)) mark_withdrawn_text (filing_params agent number) (filing_params agent number) old new result ran refl (λ count h t has fit. filing_marked agent number old new count t has fit h)

@@ -152,11 +152,21 @@ with_period_row p t = record t { periods = t.periods ++ period_columns p ∷ [] 
 abbrev pub with_period_rows : List InterestRow → Contents → Contents
 with_period_rows is t = record t { periods = t.periods ++ flat_map days_of is }
 
+-- an interest's row and that of its days
+abbrev pub with_interest : InterestRow → Contents → Contents
+with_interest i t = with_period_rows (i ∷ []) (with_interest_rows (i ∷ []) t)
+
 -- a statement's row and those of its lists
 abbrev pub with_one_placed : Placed → Contents → Contents
 with_one_placed p t =
     with_period_rows (interest_rows p) (with_interest_rows (interest_rows p)
     (with_identifier_rows (identifier_rows p) (with_statement_row (bare p) t)))
+
+-- the changes that elements make, one after the other, each with its number from a number on
+abbrev pub in_turn : {X : Type 0} → (ℕ → X → Contents → Contents) → ℕ → List X → Contents
+    → Contents
+in_turn change n [] t = t
+in_turn change n (x ∷ xs) t = in_turn change (n + 1) xs (change n x t)
 
 -- the rows of all these statements
 abbrev pub with_placed : List Placed → Contents → Contents

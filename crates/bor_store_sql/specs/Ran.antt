@@ -1,5 +1,6 @@
 -- The effects of a transaction, for clauses of private functions alone.
-use Rattle.std.specs.Prelude.{◌≡◌, ◌⊎◌, ℕ, List, Ok, Err, Result, OnOk, OnErr, IsOk, IsTrue}
+use Rattle.std.specs.Prelude.{◌≡◌, ◌⊎◌, ℕ, List, [], ◌∷◌, Ok, Err, Result, OnOk, OnErr, IsErr}
+use Rattle.std.specs.Prelude.{IsOk, IsTrue}
 use Rattle.sqlite.specs.Effect.{Database}
 use Rattle.sqlite.specs.Held.{Held, state}
 use Rattle.sqlite.specs.Order.{Row}
@@ -26,6 +27,19 @@ pub record Ran (text : List ℕ) (params : Row) (old new : State)
   pub clean : HasCleanDisk new → HasCleanDisk old
   pub stops : LeavesNoMore old new
   pub inside : HasCleanDisk new → IsTrue old.in_transaction → RunsInside text params old new result
+
+-- the texts were run one after the other, until one failed
+abbrev pub RanInTurn : {S : Type 0} → Ghosts S → List (List ℕ) → Row → Held S → Held S
+    → Result (Unit {0}) Error → Type 0
+RanInTurn g [] params old new result = (old ≡ new) × (Ok (tt {0}) ≡ result)
+RanInTurn {S} g (text ∷ texts) params old new result =
+    ((mid : Held S) × Ran text params (state g old) (state g mid) (Ok (tt {0}))
+    × RanInTurn g texts params mid new result)
+    ⊎ ((e : Error) × Ran text params (state g old) (state g new) (Err e) × IsErr result)
+
+pub record RanEach {S : Type 0} (g : Ghosts S) (texts : List (List ℕ)) (params : Row)
+    (old new : Held S) (result : Result (Unit {0}) Error) : Type 0 where
+  pub in_turn : RanInTurn g texts params old new result
 
 -- the database after statements that went well; a failure may have ended the transaction
 pub record Moved (Makes : Database → Database → Type 0) (old new : State)

@@ -1,6 +1,6 @@
-//! The columns of rows, as parameters.
+//! The columns of rows, as parameters, and whether a row has them.
 
-ghost use Rattle.std.specs.Prelude.{◌≡◌, pos, [], ◌∷◌, option_map};
+ghost use Rattle.std.specs.Prelude.{◌≡◌, ◌↔◌, pos, [], ◌∷◌, option_map, IsTrue};
 ghost use Rattle.sqlite_value.specs.Value.{owned};
 ghost use Rattle.sqlite.specs.Values.{bound, bound_value};
 ghost use Rattle.sqlite.specs.declared.types.Value.TheVariants.{Int, Text, Blob};
@@ -10,10 +10,13 @@ ghost use Rattle.bor_store_sql.specs.Rows.Placed.{bare, part_of};
 ghost use Rattle.bor_store_sql.specs.Rows.Encoding.{agent_columns, statement_columns, part_columns, interest_columns, identifier_columns, period_columns, day_or_null, or_null, share_columns, tables_version};
 ghost use Rattle.bor_store_sql.specs.Changing.{given_filing};
 
+use crate::rows::{At, FilingKey, value_at};
 use crate::texts::changes::VERSION;
 use bods_read::{Details, FreeText, Identifier, Interest, Statement, Status};
 use bor_terms::{Day, Ident, Span};
+use sqlite::Row;
 use sqlite::types::ValueRef;
+use sqlite_value::order::is_same;
 
 /// One text.
 pub(crate) fn one_text(text: &str) -> [ValueRef<'_>; 1]
@@ -51,13 +54,14 @@ pub(crate) fn filing_key(agent: &str, number: u32) -> [ValueRef<'_>; 2]
 }
 
 /// A statement by agent, filing and place.
-pub(crate) fn statement_key(agent: &str, filing: u32, place: u32) -> [ValueRef<'_>; 3]
-    ensures { bound result ≡ Text agent.now ∷ Int (pos filing) ∷ Int (pos place) ∷ [] }
+pub(crate) fn statement_key(at: &At) -> [ValueRef<'_>; 3]
+    ensures { bound result
+        ≡ Text at.now.agent ∷ Int (pos at.now.filing) ∷ Int (pos at.now.place) ∷ [] }
 {
     [
-        ValueRef::Text(agent.as_bytes()),
-        ValueRef::Int(i64::from(filing)),
-        ValueRef::Int(i64::from(place)),
+        ValueRef::Text(at.agent.as_str().as_bytes()),
+        ValueRef::Int(i64::from(at.filing)),
+        ValueRef::Int(i64::from(at.place)),
     ]
 }
 
@@ -109,17 +113,16 @@ pub(crate) fn agent_values<'a>(name: &'a str, token: &'a str) -> [ValueRef<'a>; 
 
 /// The columns of a filing but `withdrawn`.
 pub(crate) fn filing_values<'a>(
-    agent: &'a str,
-    number: u32,
+    filing: &'a FilingKey,
     key: &'a str,
     due: Day,
     bytes: &'a [u8],
 ) -> [ValueRef<'a>; 5]
-    ensures { bound result ≡ given_filing agent.now number key.now due bytes.now }
+    ensures { bound result ≡ given_filing filing.now.agent filing.now.number key.now due bytes.now }
 {
     [
-        ValueRef::Text(agent.as_bytes()),
-        ValueRef::Int(i64::from(number)),
+        ValueRef::Text(filing.agent.as_str().as_bytes()),
+        ValueRef::Int(i64::from(filing.number)),
         ValueRef::Text(key.as_bytes()),
         ValueRef::Int(i64::from(due.number())),
         ValueRef::Blob(bytes),
@@ -129,22 +132,20 @@ pub(crate) fn filing_values<'a>(
 /// The columns of an identifier: where its statement stands, which of its identifiers it is, and
 /// what it is.
 pub(crate) fn identifier_values<'a>(
-    agent: &'a str,
-    filing: u32,
-    place: u32,
+    at: &'a At,
     item: u32,
     identifier: &'a Identifier,
 ) -> [ValueRef<'a>; 6]
     ensures { bound result ≡ identifier_columns (record {
-      at = record { agent = agent.now; filing = filing; place = place };
+      at = at.now;
       item = item;
       identifier = identifier.now;
     }) }
 {
     [
-        ValueRef::Text(agent.as_bytes()),
-        ValueRef::Int(i64::from(filing)),
-        ValueRef::Int(i64::from(place)),
+        ValueRef::Text(at.agent.as_str().as_bytes()),
+        ValueRef::Int(i64::from(at.filing)),
+        ValueRef::Int(i64::from(at.place)),
         ValueRef::Int(i64::from(item)),
         ValueRef::Text(identifier.scheme.as_str().as_bytes()),
         ValueRef::Text(identifier.id.as_str().as_bytes()),
@@ -208,22 +209,17 @@ fn part_values(details: &Details) -> [ValueRef<'_>; 4]
 pub(crate) const STATUS: usize = 8;
 
 /// The columns of a statement: where it stands, and what it says but for its lists.
-pub(crate) fn statement_values<'a>(
-    agent: &'a str,
-    filing: u32,
-    place: u32,
-    statement: &'a Statement,
-) -> [ValueRef<'a>; 13]
+pub(crate) fn statement_values<'a>(at: &'a At, statement: &'a Statement) -> [ValueRef<'a>; 13]
     ensures { bound result ≡ statement_columns (bare (record {
-      at = record { agent = agent.now; filing = filing; place = place };
+      at = at.now;
       statement = statement.now;
     })) }
 {
     let [sub_kind, name, subject, party] = part_values(&statement.details);
     [
-        ValueRef::Text(agent.as_bytes()),
-        ValueRef::Int(i64::from(filing)),
-        ValueRef::Int(i64::from(place)),
+        ValueRef::Text(at.agent.as_str().as_bytes()),
+        ValueRef::Int(i64::from(at.filing)),
+        ValueRef::Int(i64::from(at.place)),
         ValueRef::Text(statement.id.as_str().as_bytes()),
         ValueRef::Int(i64::from(statement.day.number())),
         ValueRef::Text(statement.declaration.as_str().as_bytes()),
@@ -260,23 +256,21 @@ fn share_values(share: Option<Span>) -> [ValueRef<'static>; 4]
 /// The columns of an interest: where its statement stands, which of its interests it is, and what
 /// it is.
 pub(crate) fn interest_values<'a>(
-    agent: &'a str,
-    filing: u32,
-    place: u32,
+    at: &'a At,
     item: u32,
     interest: &'a Interest,
 ) -> [ValueRef<'a>; 10]
     ensures { bound result ≡ interest_columns (record {
-      at = record { agent = agent.now; filing = filing; place = place };
+      at = at.now;
       item = item;
       interest = interest.now;
     }) }
 {
     let [low, low_open, high, high_open] = share_values(interest.share);
     [
-        ValueRef::Text(agent.as_bytes()),
-        ValueRef::Int(i64::from(filing)),
-        ValueRef::Int(i64::from(place)),
+        ValueRef::Text(at.agent.as_str().as_bytes()),
+        ValueRef::Int(i64::from(at.filing)),
+        ValueRef::Int(i64::from(at.place)),
         ValueRef::Int(i64::from(item)),
         ValueRef::Text(interest.kind.as_str().as_bytes()),
         ValueRef::Text(interest.directness.as_str().as_bytes()),
@@ -299,24 +293,22 @@ fn day_or_null(day: Option<Day>) -> ValueRef<'static>
 /// The columns of the days of an interest: where its statement stands, which of its interests it
 /// is, and its first and its last day.
 pub(crate) fn period_values(
-    agent: &str,
-    filing: u32,
-    place: u32,
+    at: &At,
     item: u32,
     starts: Option<Day>,
     ends: Option<Day>,
 ) -> [ValueRef<'_>; 6]
     ensures { bound result ≡ period_columns (record {
-      at = record { agent = agent.now; filing = filing; place = place };
+      at = at.now;
       item = item;
       starts = starts;
       ends = ends;
     }) }
 {
     [
-        ValueRef::Text(agent.as_bytes()),
-        ValueRef::Int(i64::from(filing)),
-        ValueRef::Int(i64::from(place)),
+        ValueRef::Text(at.agent.as_str().as_bytes()),
+        ValueRef::Int(i64::from(at.filing)),
+        ValueRef::Int(i64::from(at.place)),
         ValueRef::Int(i64::from(item)),
         day_or_null(starts),
         day_or_null(ends),
@@ -328,4 +320,29 @@ pub(crate) fn version_value() -> [ValueRef<'static>; 1]
     ensures { bound result ≡ Int tables_version ∷ [] }
 {
     [ValueRef::Int(VERSION)]
+}
+
+// Whether a row has the value that is put down for this one: for a NaN it is null.
+fn is_value(found: ValueRef<'_>, value: ValueRef<'_>) -> bool
+    ensures { IsTrue result ↔ (owned found.entry ≡ bound_value (owned value.entry)) }
+{
+    match value {
+        ValueRef::Real(x) if x.is_nan() => is_same(found, ValueRef::Null),
+        _ => is_same(found, value),
+    }
+}
+
+/// Whether a row has these values and no others.
+pub(crate) fn is_row(row: &Row, values: &[ValueRef<'_>]) -> bool
+    ensures { IsTrue result ↔ (row.now ≡ bound values.now) }
+{
+    if row.column_count() != values.len() {
+        return false;
+    }
+    for (at, value) in values.iter().enumerate() {
+        if !is_value(value_at(row, at), *value) {
+            return false;
+        }
+    }
+    true
 }

@@ -3,16 +3,16 @@
 ghost use Rattle.std.specs.Prelude.{◌≡◌, [], ◌∷◌, ◌++◌, OnOk};
 ghost use Rattle.sqlite.specs.Held.{state};
 ghost use Rattle.bor_register.specs.Register.{empty_register};
-ghost use Rattle.bor_store_sql.specs.Texts.Tables.{no_schema, schema_3, schema_6, first_schema, period_table};
+ghost use Rattle.bor_store_sql.specs.Texts.Tables.{no_schema, first_schema, period_table};
 ghost use Rattle.bor_store_sql.specs.Rows.Encoding.{contents};
-ghost use Rattle.bor_store_sql.specs.Beside.{Adds, AddsIndexes, PutsRegister, SetsUp, SetsUpIn, SetsUpSound, blank, details, four_indexes, lists};
+ghost use Rattle.bor_store_sql.specs.Beside.{Adds, PutsRegister, SetsUp, SetsUpIn, SetsUpSound, blank, details, four_indexes, lists};
 ghost use Rattle.bor_store_sql.specs.Blank.{IsBlank, Leads, no_contents};
 ghost use Rattle.bor_store_sql.specs.Moving.{MakesPeriod};
 ghost use Rattle.bor_store_sql.specs.Ran.{Moves, RanOpen};
 ghost use Rattle.bor_store_sql.specs.Shown.{Commits, Has, IsClean, LeavesAtMost, ShowsIn, Stands};
 
 use crate::columns::register_values;
-use crate::running::{finish, run};
+use crate::running::{finish, run, run_each};
 use crate::texts::changes::INSERT_REGISTER;
 use crate::texts::tables::{
     AGENT_TABLE, FILING_TABLE, IDENTIFIER_INDEX, IDENTIFIER_TABLE, INTEREST_TABLE, LINE_INDEX,
@@ -32,42 +32,7 @@ pub(crate) fn create_period<S: Alter>(tx: &mut Transaction<'_, S>) -> Result<(),
     run(tx, PERIOD_TABLE, &[])
 }
 
-fn create_lists<S: Alter>(tx: &mut Transaction<'_, S>) -> Result<(), Error>
-    ensures same_reference { tx.new.conn.ghost_name ≡ tx.old.conn.ghost_name }
-    ensures ran_open { RanOpen S.Store tx.old.conn.now tx.new.conn.now result }
-    ensures leads { Leads S.Store tx.old.conn.now tx.new.conn.now result (IsBlank no_schema)
-        (IsBlank schema_3) }
-    ensures adds { Moves S.Store tx.old.conn.now tx.new.conn.now result (Adds lists []) }
-{
-    run(tx, REGISTER_TABLE, &[])?;
-    run(tx, AGENT_TABLE, &[])?;
-    run(tx, FILING_TABLE, &[])
-}
-
-fn create_details<S: Alter>(tx: &mut Transaction<'_, S>) -> Result<(), Error>
-    ensures same_reference { tx.new.conn.ghost_name ≡ tx.old.conn.ghost_name }
-    ensures leads { Leads S.Store tx.old.conn.now tx.new.conn.now result (IsBlank schema_3)
-        (IsBlank schema_6) }
-    ensures adds { Moves S.Store tx.old.conn.now tx.new.conn.now result (Adds details []) }
-{
-    run(tx, STATEMENT_TABLE, &[])?;
-    run(tx, INTEREST_TABLE, &[])?;
-    run(tx, IDENTIFIER_TABLE, &[])
-}
-
-fn create_indexes<S: Alter>(tx: &mut Transaction<'_, S>) -> Result<(), Error>
-    ensures same_reference { tx.new.conn.ghost_name ≡ tx.old.conn.ghost_name }
-    ensures leads { Leads S.Store tx.old.conn.now tx.new.conn.now result (IsBlank schema_6)
-        (IsBlank first_schema) }
-    ensures adds { Moves S.Store tx.old.conn.now tx.new.conn.now result (AddsIndexes four_indexes) }
-{
-    run(tx, RECORD_INDEX, &[])?;
-    run(tx, SUBJECT_INDEX, &[])?;
-    run(tx, IDENTIFIER_INDEX, &[])?;
-    run(tx, LINE_INDEX, &[])
-}
-
-// The tables of version 1.
+// The tables of version 1, and their indexes.
 fn create_tables<S: Alter>(tx: &mut Transaction<'_, S>) -> Result<(), Error>
     ensures same_reference { tx.new.conn.ghost_name ≡ tx.old.conn.ghost_name }
     ensures ran_open { RanOpen S.Store tx.old.conn.now tx.new.conn.now result }
@@ -76,9 +41,19 @@ fn create_tables<S: Alter>(tx: &mut Transaction<'_, S>) -> Result<(), Error>
     ensures adds { Moves S.Store tx.old.conn.now tx.new.conn.now result
         (Adds (lists ++ details) four_indexes) }
 {
-    create_lists(tx)?;
-    create_details(tx)?;
-    create_indexes(tx)
+    let texts = [
+        REGISTER_TABLE,
+        AGENT_TABLE,
+        FILING_TABLE,
+        STATEMENT_TABLE,
+        INTEREST_TABLE,
+        IDENTIFIER_TABLE,
+        RECORD_INDEX,
+        SUBJECT_INDEX,
+        IDENTIFIER_INDEX,
+        LINE_INDEX,
+    ];
+    run_each(tx, &texts, &[])
 }
 
 fn insert_register<S: Alter>(

@@ -12,6 +12,7 @@ ghost use Rattle.bor_store_sql.specs.Selected.{members_named, members_having, ke
 
 use crate::columns::{file_key, filing_key, one_text, statement_key, three_texts, two_texts};
 use crate::queries::query;
+use crate::rows::At;
 use crate::texts::queries::{
     AGENT_BY_NAME, AGENT_BY_TOKEN, FILE_BY_NUMBER, FILING_BY_KEY, FILINGS_OF_AGENT,
     IDENTIFIERS_OF_STATEMENT, INTERESTS_OF_STATEMENT, LAST_FILING, LAST_OF_SERIES, LINE_BY_KEY,
@@ -164,38 +165,23 @@ pub fn statements_of_declaration<S: Alter>(
 /// The interests of the statement at this place, by item.
 pub fn interests_of_statement<S: Alter>(
     conn: &mut Connection<S>,
-    agent: &str,
-    number: u32,
-    place: u32,
+    at: &At,
 ) -> Result<Vec<Row>, Error>
     ensures { FindsBoth S.Store conn.old conn.new result (λ r.
         map interest_columns
-        (interests_at (record { agent = agent.now; filing = number; place = place }) r.members)) }
+        (interests_at at.now r.members)) }
 {
-    query(
-        conn,
-        INTERESTS_OF_STATEMENT,
-        &statement_key(agent, number, place),
-    )
+    query(conn, INTERESTS_OF_STATEMENT, &statement_key(at))
 }
 
 /// The days of the interests of the statement at this place, by item.
-pub fn periods_of_statement<S: Alter>(
-    conn: &mut Connection<S>,
-    agent: &str,
-    number: u32,
-    place: u32,
-) -> Result<Vec<Row>, Error>
+pub fn periods_of_statement<S: Alter>(conn: &mut Connection<S>, at: &At) -> Result<Vec<Row>, Error>
     ensures { Finds S.Store conn.old conn.new result (λ r.
         map period_columns
         (flat_map period_rows
-        (interests_at (record { agent = agent.now; filing = number; place = place }) r.members))) }
+        (interests_at at.now r.members))) }
 {
-    query(
-        conn,
-        PERIODS_OF_STATEMENT,
-        &statement_key(agent, number, place),
-    )
+    query(conn, PERIODS_OF_STATEMENT, &statement_key(at))
 }
 
 /// The agent's filing with this number, with its file.
@@ -214,17 +200,11 @@ pub fn file_by_number<S: Alter>(
 /// The identifiers of the statement at this place, by item.
 pub fn identifiers_of_statement<S: Alter>(
     conn: &mut Connection<S>,
-    agent: &str,
-    number: u32,
-    place: u32,
+    at: &At,
 ) -> Result<Vec<Row>, Error>
     ensures { FindsBoth S.Store conn.old conn.new result (λ r.
         map identifier_columns
-        (identifiers_at (record { agent = agent.now; filing = number; place = place }) r.members)) }
+        (identifiers_at at.now r.members)) }
 {
-    query(
-        conn,
-        IDENTIFIERS_OF_STATEMENT,
-        &statement_key(agent, number, place),
-    )
+    query(conn, IDENTIFIERS_OF_STATEMENT, &statement_key(at))
 }

@@ -11,6 +11,7 @@ mod additions;
 mod columns;
 mod creation;
 mod fitting;
+mod items;
 mod keyed;
 pub mod laws;
 mod moving;
@@ -23,9 +24,10 @@ mod running;
 pub mod texts;
 mod withdrawal;
 
-pub use additions::{add_filing, has_days, interests, next_number};
+pub use additions::{add_filing, interests};
 pub use creation::set_up;
 pub use fitting::keeps_statements;
+pub use items::{has_days, next_number};
 pub use keyed::{
     agent_by_name, agent_by_token, file_by_number, filing_by_key, filings_of_agent,
     identifiers_of_statement, interests_of_statement, last_filing, last_of_series, line_by_key,

@@ -22,14 +22,7 @@ fn put_row<S: Alter>(tx: &mut Transaction<'_, S>, period: &PeriodRow) -> Result<
     run(
         tx,
         INSERT_PERIOD,
-        &period_values(
-            period.at.agent.as_str(),
-            period.at.filing,
-            period.at.place,
-            period.item,
-            period.starts,
-            period.ends,
-        ),
+        &period_values(&period.at, period.item, period.starts, period.ends),
     )
 }
 

@@ -8,6 +8,7 @@ ghost use Rattle.bor_store_sql.specs.Selected.{placed_of, in_series, in_record, 
 
 use crate::columns::{statement_key, three_texts, two_texts};
 use crate::queries::query;
+use crate::rows::At;
 use crate::texts::queries::{
     IDENTIFIERS_BY_ID, STATEMENT_BY_PLACE, STATEMENTS_OF_RECORD, STATEMENTS_OF_SERIES,
     STATEMENTS_OF_SUBJECT,
@@ -66,21 +67,12 @@ pub fn statements_of_subject<S: Alter>(
 
 /// The live statement at a place of the agent's filing with this number; no row where there is
 /// none.
-pub fn statement_by_place<S: Alter>(
-    conn: &mut Connection<S>,
-    agent: &str,
-    number: u32,
-    place: u32,
-) -> Result<Vec<Row>, Error>
+pub fn statement_by_place<S: Alter>(conn: &mut Connection<S>, at: &At) -> Result<Vec<Row>, Error>
     ensures { Finds S.Store conn.old conn.new result (λ r.
         map (λ p. statement_columns (bare p))
-        (standing_at (record { agent = agent.now; filing = number; place = place }) r.members)) }
+        (standing_at at.now r.members)) }
 {
-    query(
-        conn,
-        STATEMENT_BY_PLACE,
-        &statement_key(agent, number, place),
-    )
+    query(conn, STATEMENT_BY_PLACE, &statement_key(at))
 }
 
 /// The identifiers of all live statements that have this scheme and this identifier, by agent,

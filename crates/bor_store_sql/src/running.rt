@@ -1,12 +1,10 @@
 //! Running a statement of a transaction, and ending the transaction.
 
-ghost use Rattle.std.specs.Prelude.{◌≡◌, false, pos, [], ◌∷◌};
+ghost use Rattle.std.specs.Prelude.{◌≡◌, false, map};
 ghost use Rattle.sqlite.specs.Held.{state};
 ghost use Rattle.sqlite.specs.Values.{bound};
-ghost use Rattle.sqlite.specs.declared.types.Value.TheVariants.{Int, Text};
-ghost use Rattle.bor_store_sql.specs.Ran.{Ends, Ran};
+ghost use Rattle.bor_store_sql.specs.Ran.{Ends, Ran, RanEach};
 
-use crate::columns::filing_key;
 use sqlite::types::ValueRef;
 use sqlite::{Alter, Error, Transaction};
 
@@ -24,18 +22,20 @@ pub(crate) fn run<S: Alter>(
     Ok(())
 }
 
-/// Runs a statement that is given a filing, by agent and number.
-pub(crate) fn run_by_filing<S: Alter>(
+/// Runs statements of the transaction that is under way, each with these parameters.
+pub(crate) fn run_each<S: Alter>(
     tx: &mut Transaction<'_, S>,
-    sql: &str,
-    agent: &str,
-    number: u32,
+    texts: &[&str],
+    params: &[ValueRef<'_>],
 ) -> Result<(), Error>
     ensures same_reference { tx.new.conn.ghost_name ≡ tx.old.conn.ghost_name }
-    ensures ran { Ran sql.now (Text agent.now ∷ Int (pos number) ∷ [])
-        (state S.Store tx.old.conn.now) (state S.Store tx.new.conn.now) result }
+    ensures ran { RanEach S.Store (map (λ text. text.now) texts.now) (bound params.now)
+        tx.old.conn.now tx.new.conn.now result }
 {
-    run(tx, sql, &filing_key(agent, number))
+    for sql in texts {
+        run(tx, sql, params)?;
+    }
+    Ok(())
 }
 
 /// Commits the transaction where all went well that was done in it, and else undoes it.

@@ -5,7 +5,8 @@ ghost use Rattle.bor_store_sql.specs.Ran.{RanOpen};
 ghost use Rattle.bor_store_sql.specs.Shown.{Alters, Always, Steps};
 ghost use Rattle.bor_store_sql.specs.Changing.{IsOnce, withdrawn_in, withdrawn};
 
-use crate::running::{finish, run_by_filing};
+use crate::columns::filing_key;
+use crate::running::{finish, run_each};
 use crate::texts::changes::{
     DELETE_IDENTIFIERS, DELETE_INTERESTS, DELETE_PERIODS, DELETE_STATEMENTS, MARK_WITHDRAWN,
 };
@@ -21,11 +22,14 @@ fn withdraw_rows<S: Alter>(
     ensures steps { Steps S.Store tx.old.conn.now tx.new.conn.now result (IsOnce agent.now number)
         (withdrawn_in agent.now number) }
 {
-    run_by_filing(tx, MARK_WITHDRAWN, agent, number)?;
-    run_by_filing(tx, DELETE_PERIODS, agent, number)?;
-    run_by_filing(tx, DELETE_IDENTIFIERS, agent, number)?;
-    run_by_filing(tx, DELETE_INTERESTS, agent, number)?;
-    run_by_filing(tx, DELETE_STATEMENTS, agent, number)
+    let texts = [
+        MARK_WITHDRAWN,
+        DELETE_PERIODS,
+        DELETE_IDENTIFIERS,
+        DELETE_INTERESTS,
+        DELETE_STATEMENTS,
+    ];
+    run_each(tx, &texts, &filing_key(agent, number))
 }
 
 /// Withdraws the agent's filing with this number, in a transaction of its own.

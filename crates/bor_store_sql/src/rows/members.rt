@@ -1,13 +1,14 @@
 //! The members of a register from the rows of its tables, without their files.
 
-ghost use Rattle.std.specs.Prelude.{◌≡◌, ◌++◌, ℕ, List, [], IfOk, map, true, false, not, ◌==◌, length, IfSome, ◌<◌};
-ghost use Rattle.std.specs.List.{AllByRecursion, position_from};
+ghost use Rattle.std.specs.Prelude.{◌≡◌, ◌++◌, ℕ, List, [], IfOk, map, true, false, ◌==◌};
+ghost use Rattle.std.specs.List.{AllByRecursion};
 ghost use Rattle.bor_terms.specs.Texts.{is_same};
 ghost use Rattle.bor_register.specs.Register.{IsOrdered};
 ghost use Rattle.bor_store_sql.specs.Rows.Placed.{agent_row, filing_row, filing_lines, placed, placed_by};
 ghost use Rattle.bor_register.specs.Bare.{without_file, without_files, member_without_files};
 ghost use Rattle.bor_store_sql.specs.Rows.Stored.{AreNumbered, AllNumbered};
 
+use crate::rows::split::split_own;
 use crate::rows::typed::{AgentRow, FilingRow, Placed};
 use bods_read::Statement;
 use bor_register::{AcceptedFiling, Member};
@@ -124,17 +125,7 @@ pub(crate) fn split_filings<'a>(
         → AllByRecursion (λ row. is_same row.agent agent.now ≡ false) more
         → (result.0.now ≡ mine) × (result.1.now ≡ more) }
 {
-    match other_filings(rows, agent) {
-        Some(count) => rows.split_at(count),
-        None => rows.split_at(rows.len()),
-    }
-}
-
-fn other_filings(rows: &[FilingRow], agent: &AgentName) -> Option<usize>
-    ensures found { result ≡ position_from (λ row. not (is_same row.agent agent.now)) 0 rows.now }
-    ensures bound { IfSome result (λ n. n < length rows.now) }
-{
-    rows.iter().position(|row| row.agent != *agent)
+    split_own(rows, |row| row.agent == *agent)
 }
 
 fn split_agent<'a>(rows: &'a [Placed], agent: &AgentName) -> (&'a [Placed], &'a [Placed])
@@ -143,18 +134,7 @@ fn split_agent<'a>(rows: &'a [Placed], agent: &AgentName) -> (&'a [Placed], &'a 
         → AllByRecursion (λ row. is_same row.at.agent agent.now ≡ false) more
         → (result.0.now ≡ mine) × (result.1.now ≡ more) }
 {
-    match other_agent(rows, agent) {
-        Some(count) => rows.split_at(count),
-        None => rows.split_at(rows.len()),
-    }
-}
-
-fn other_agent(rows: &[Placed], agent: &AgentName) -> Option<usize>
-    ensures found { result ≡ position_from
-        (λ row. not (is_same row.at.agent agent.now)) 0 rows.now }
-    ensures bound { IfSome result (λ n. n < length rows.now) }
-{
-    rows.iter().position(|row| row.at.agent != *agent)
+    split_own(rows, |row| row.at.agent == *agent)
 }
 
 fn split_filing<'a>(rows: &'a [Placed], number: u32) -> (&'a [Placed], &'a [Placed])
@@ -163,15 +143,5 @@ fn split_filing<'a>(rows: &'a [Placed], number: u32) -> (&'a [Placed], &'a [Plac
         → AllByRecursion (λ row. (row.at.filing == number) ≡ false) more
         → (result.0.now ≡ mine) × (result.1.now ≡ more) }
 {
-    match other_filing(rows, number) {
-        Some(count) => rows.split_at(count),
-        None => rows.split_at(rows.len()),
-    }
-}
-
-fn other_filing(rows: &[Placed], number: u32) -> Option<usize>
-    ensures found { result ≡ position_from (λ row. not (row.at.filing == number)) 0 rows.now }
-    ensures bound { IfSome result (λ n. n < length rows.now) }
-{
-    rows.iter().position(|row| row.at.filing != number)
+    split_own(rows, |row| row.at.filing == number)
 }

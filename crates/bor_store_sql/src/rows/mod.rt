@@ -27,7 +27,7 @@ pub use answers::{first_flag, first_row, lines_of};
 pub use fault::RowFault;
 pub use joining::joined;
 pub use members::members_of;
-pub use places::At;
+pub use places::{At, FilingKey};
 pub use reader::{TableRow, read_rows};
 pub use timing::with_periods;
 pub use typed::{

@@ -1,13 +1,30 @@
-//! The first rows of a sorted list: those of one statement.
+//! The first rows of a sorted list: those of one owner.
 
-ghost use Rattle.std.specs.Prelude.{◌≡◌, ◌++◌, IfOk, map, true, false, not, length, IfSome, ◌<◌};
-ghost use Rattle.std.specs.List.{AllByRecursion, position_from};
+ghost use Rattle.std.specs.Prelude.{◌≡◌, ◌++◌, IfOk, map, Bool, true, false};
+ghost use Rattle.std.specs.Fn.{FnReturnsAt};
+ghost use Rattle.std.specs.List.{AllByRecursion};
 ghost use Rattle.bor_store_sql.specs.Rows.Placed.{same_place};
 
 use crate::rows::places::At;
 use crate::rows::typed::{IdentifierRow, InterestRow};
 use bods_read::{Identifier, Interest};
 use std::alloc::{AllocError, Global};
+
+/// The rows that pass, which come first, and those that follow.
+pub(crate) fn split_own<'a, T, P: Fn(&T) -> bool>(rows: &'a [T], is_own: P) -> (&'a [T], &'a [T])
+    requires { P.IsAlwaysCallable is_own }
+    ensures { (own : T → Bool) → ((x : T) (r : Bool) → FnReturnsAt P.Fn is_own x r → r ≡ own x)
+        → (mine more : _) → rows.now ≡ mine ++ more
+        → AllByRecursion (λ x. own x ≡ true) mine → AllByRecursion (λ x. own x ≡ false) more
+        → (result.0.now ≡ mine) × (result.1.now ≡ more) }
+{
+    for (count, row) in rows.iter().enumerate() {
+        if !is_own(row) {
+            return rows.split_at(count);
+        }
+    }
+    rows.split_at(rows.len())
+}
 
 /// The rows at this place, and those that follow, where none of them is at it.
 pub(crate) fn split_interests<'a>(
@@ -19,10 +36,7 @@ pub(crate) fn split_interests<'a>(
         → AllByRecursion (λ row. same_place row.at at.now ≡ false) more
         → (result.0.now ≡ mine) × (result.1.now ≡ more) }
 {
-    match other_interests(rows, at) {
-        Some(count) => rows.split_at(count),
-        None => rows.split_at(rows.len()),
-    }
+    split_own(rows, |row| row.at.is(at))
 }
 
 /// The rows at this place, and those that follow, where none of them is at it.
@@ -35,10 +49,7 @@ pub(crate) fn split_identifiers<'a>(
         → AllByRecursion (λ row. same_place row.at at.now ≡ false) more
         → (result.0.now ≡ mine) × (result.1.now ≡ more) }
 {
-    match other_identifiers(rows, at) {
-        Some(count) => rows.split_at(count),
-        None => rows.split_at(rows.len()),
-    }
+    split_own(rows, |row| row.at.is(at))
 }
 
 /// The interests of these rows.
@@ -61,18 +72,4 @@ pub(crate) fn identifiers(
         identifiers.push(row.identifier.copy(alloc)?)?;
     }
     Ok(identifiers)
-}
-
-fn other_interests(rows: &[InterestRow], at: &At) -> Option<usize>
-    ensures found { result ≡ position_from (λ row. not (same_place row.at at.now)) 0 rows.now }
-    ensures bound { IfSome result (λ n. n < length rows.now) }
-{
-    rows.iter().position(|row| row.at.is_not(at))
-}
-
-fn other_identifiers(rows: &[IdentifierRow], at: &At) -> Option<usize>
-    ensures found { result ≡ position_from (λ row. not (same_place row.at at.now)) 0 rows.now }
-    ensures bound { IfSome result (λ n. n < length rows.now) }
-{
-    rows.iter().position(|row| row.at.is_not(at))
 }

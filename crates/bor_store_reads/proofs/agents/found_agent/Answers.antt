@@ -1,9 +1,7 @@
-use Rattle.std.proofs.Common.{◌≡◌, map, option_map, sym, ap, ◌∙◌, slice_get}
+use Rattle.std.proofs.Common.{map, option_map, sym, ap, ◌∙◌}
 use Rattle.std.proofs.lemmas.Simd.{map-map}
 use Rattle.std.proofs.lemmas.List.Elements.{All-filter}
-use Rattle.sqlite.specs.Held.{state}
 use Rattle.bor_register.specs.declared.member.Member.{Member}
-use Rattle.bor_register.specs.Register.{agent_with}
 use Rattle.bor_register.specs.Forms.{IsFormedMember}
 use Rattle.bor_store_sql.specs.declared.rows.typed.AgentRow.{AgentRow}
 use Rattle.bor_store_sql.specs.Rows.Placed.{agent_row}
@@ -12,18 +10,16 @@ use Rattle.bor_store_sql.specs.Rows.RowForms.{IsFormedAgentRow}
 use Rattle.bor_store_sql.proofs.OnRows.Formed.{agents_formed}
 use Rattle.bor_store_sql.specs.Selected.{members_having}
 use Rattle.bor_terms.specs.Texts.{is_same}
-use Rattle.bor_store_reads.proofs.Found.{told, in_words}
+use Rattle.bor_store_reads.proofs.Reading.{read_as}
+use Rattle.bor_store_reads.proofs.Found.{first_told}
 use Rattle.bor_store_reads.proofs.FoundAgents.{first_with}
 use Rattle.bor_store_reads.proofs.agents.found_agent.Goals as goal
 
 pub returns : goal.returns
 returns g c =
     let token = c.args.token.now in
-    let old = state g.S.Store c.args.conn.now in
-    let new = state g.S.Store c.agent_by_token.new.conn in
-    in_words old new c.first_value.result (λ r x. x ≡ slice_get (map agent_row (members_having token r.members)) 0) (λ r x. option_map (λ (a : AgentRow). a.name) x ≡ agent_with token r.members)
-    (λ r x stored is. ap (option_map (λ (a : AgentRow). a.name)) is ∙ first_with token r.members)
-    (told agent_row_columns IsFormedAgentRow old new c.agent_by_token.result (λ r. map agent_columns (members_having c.as_str.result.now r.members)) c.agent_by_token.ensures
-    (λ r. map agent_row (members_having token r.members)) (λ r. ap (λ t. map agent_columns (members_having t r.members)) c.as_str.ensures.value ∙ sym (map-map agent_row_columns agent_row (members_having token r.members)))
+    read_as (first_told agent_row_columns IsFormedAgentRow (λ r. map agent_row (members_having token r.members)) c.agent_by_token.ensures
+    (λ r. ap (λ t. map agent_columns (members_having t r.members)) c.as_str.ensures.value ∙ sym (map-map agent_row_columns agent_row (members_having token r.members)))
     (λ r stored. agents_formed (members_having token r.members) (All-filter (λ (m : Member). is_same m.token token) IsFormedMember r.members stored.formed.members))
-    c.first_value.result (λ xs x. x ≡ slice_get xs 0) c.first_value.ensures.value c.first_value.ensures.found)
+    c.first_value.ensures.value c.first_value.ensures.found)
+    (λ r x stored is. ap (option_map (λ (a : AgentRow). a.name)) is ∙ first_with token r.members)

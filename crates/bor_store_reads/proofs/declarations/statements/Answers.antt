@@ -1,7 +1,6 @@
-use Rattle.std.proofs.Common.{◌≡◌, map, sym, ap₂, ◌∙◌}
+use Rattle.std.proofs.Common.{map, sym, ap₂, ◌∙◌}
 use Rattle.std.proofs.lemmas.Simd.{map-map}
 use Rattle.std.proofs.lemmas.List.Elements.{All-filter}
-use Rattle.sqlite.specs.Held.{state}
 use Rattle.bor_terms.specs.Texts.{is_same}
 use Rattle.bor_store_sql.specs.declared.rows.typed.Placed.{Placed}
 use Rattle.bor_store_sql.specs.Rows.Placed.{bare}
@@ -9,7 +8,7 @@ use Rattle.bor_store_sql.specs.Rows.Encoding.{statement_columns}
 use Rattle.bor_store_sql.specs.Rows.RowForms.{IsFormedPlaced, IsFormedStatementRow}
 use Rattle.bor_store_sql.proofs.OnRows.Formed.{all_bare_formed}
 use Rattle.bor_store_sql.specs.Selected.{in_declaration, placed_of}
-use Rattle.bor_store_reads.proofs.Found.{told}
+use Rattle.bor_store_reads.proofs.Found.{all_told}
 use Rattle.bor_store_reads.proofs.FoundStatements.{own_formed}
 use Rattle.bor_store_reads.proofs.declarations.statements.Goals as goal
 
@@ -17,8 +16,7 @@ pub returns : goal.returns
 returns g c =
     let agent = c.args.agent.now in
     let declaration = c.args.declaration.now in
-    told statement_columns IsFormedStatementRow (state g.S.Store c.args.conn.now) (state g.S.Store c.statements_of_declaration.new.conn) c.statements_of_declaration.result (λ r. map (λ p. statement_columns (bare p)) (in_declaration c.as_str-2.result.now (placed_of c.as_str.result.now r))) c.statements_of_declaration.ensures
-    (λ r. map bare (in_declaration declaration (placed_of agent r)))
+    all_told statement_columns IsFormedStatementRow c.statements_of_declaration.ensures
     (λ r. ap₂ (λ a d. map (λ p. statement_columns (bare p)) (in_declaration d (placed_of a r))) c.as_str.ensures.value c.as_str-2.ensures.value ∙ sym (map-map statement_columns bare (in_declaration declaration (placed_of agent r))))
     (λ r stored. all_bare_formed (in_declaration declaration (placed_of agent r)) (All-filter (λ (p : Placed). is_same p.statement.declaration declaration) IsFormedPlaced (placed_of agent r) (own_formed agent r stored)))
-    c.all_values.result (λ xs values. values.items ≡ xs) c.all_values.ensures.values c.all_values.ensures.found
+    c.all_values.ensures.values c.all_values.ensures.found

@@ -1,24 +1,21 @@
-use Rattle.std.proofs.Common.{◌≡◌, map, refl}
+use Rattle.std.proofs.Common.{refl}
 use Rattle.std.specs.Prelude.{◌&&◌}
 use Rattle.std.specs.List.{flat_map}
 use Rattle.std.proofs.lemmas.List.Elements.{All-filter}
-use Rattle.sqlite.specs.Held.{state}
 use Rattle.bor_terms.specs.Texts.{is_same}
 use Rattle.bor_store_sql.specs.declared.rows.typed.IdentifierRow.{IdentifierRow}
 use Rattle.bor_store_sql.specs.Rows.Placed.{placed, identifier_rows}
 use Rattle.bor_store_sql.specs.Rows.Encoding.{identifier_columns}
 use Rattle.bor_store_sql.specs.Rows.RowForms.{IsFormedIdentifierRow}
 use Rattle.bor_store_sql.proofs.OnRows.Formed.{placed_formed, all_identifiers_formed}
-use Rattle.bor_store_sql.specs.Selected.{identified_by}
-use Rattle.bor_store_reads.proofs.Found.{told}
+use Rattle.bor_store_reads.proofs.Found.{all_told}
 use Rattle.bor_store_reads.proofs.records.read_identified.Goals as goal
 
 pub returns : goal.returns
 returns g c =
     let scheme = c.args.scheme.now in
     let id = c.args.id.now in
-    told identifier_columns IsFormedIdentifierRow (state g.S.Store c.args.conn.now) (state g.S.Store c.identifiers_by_id.new.conn) c.identifiers_by_id.result (λ r. map identifier_columns (identified_by scheme id r.members)) c.identifiers_by_id.ensures
-    (λ r. identified_by scheme id r.members)
+    all_told identifier_columns IsFormedIdentifierRow c.identifiers_by_id.ensures
     (λ r. refl)
     (λ r stored. All-filter (λ (i : IdentifierRow). is_same i.identifier.scheme scheme && is_same i.identifier.id id) IsFormedIdentifierRow (flat_map identifier_rows (placed r.members)) (all_identifiers_formed (placed r.members) (placed_formed r stored)))
-    c.all_values.result (λ xs values. values.items ≡ xs) c.all_values.ensures.values c.all_values.ensures.found
+    c.all_values.ensures.values c.all_values.ensures.found

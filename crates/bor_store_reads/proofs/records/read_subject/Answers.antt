@@ -1,8 +1,7 @@
-use Rattle.std.proofs.Common.{◌≡◌, List, map, sym, ap, ap₂, ◌∙◌}
+use Rattle.std.proofs.Common.{List, map, sym, ap, ap₂, ◌∙◌}
 use Rattle.std.specs.Prelude.{◌&&◌}
 use Rattle.std.proofs.lemmas.Simd.{map-map}
 use Rattle.std.proofs.lemmas.List.Elements.{All-filter}
-use Rattle.sqlite.specs.Held.{state}
 use Rattle.bor_store_sql.specs.declared.rows.typed.Placed.{Placed}
 use Rattle.bor_store_sql.specs.Rows.Placed.{bare}
 use Rattle.bor_store_sql.specs.Rows.Encoding.{statement_columns}
@@ -11,7 +10,7 @@ use Rattle.bor_store_sql.proofs.OnRows.Formed.{all_bare_formed}
 use Rattle.bor_terms.specs.Texts.{is_same}
 use Rattle.bor_register.specs.Register.{Register}
 use Rattle.bor_store_sql.specs.Selected.{names_subject, with_subject, placed_of}
-use Rattle.bor_store_reads.proofs.Found.{told}
+use Rattle.bor_store_reads.proofs.Found.{all_told}
 use Rattle.bor_store_reads.proofs.FoundStatements.{own_formed}
 use Rattle.bor_store_reads.proofs.records.read_subject.Goals as goal
 
@@ -21,10 +20,9 @@ returns g c =
     let declaration = c.args.declaration.now in
     let rec_is = c.args.rec.now in
     let named : Register → List Placed = λ r. with_subject declaration rec_is (placed_of agent r) in
-    told statement_columns IsFormedStatementRow (state g.S.Store c.args.conn.now) (state g.S.Store c.statements_of_subject.new.conn) c.statements_of_subject.result (λ r. map (λ p. statement_columns (bare p)) (with_subject c.as_str-2.result.now c.as_str-3.result.now (placed_of c.as_str.result.now r))) c.statements_of_subject.ensures
-    (λ r. map bare (named r))
+    all_told statement_columns IsFormedStatementRow c.statements_of_subject.ensures
     (λ r. ap (λ a. map (λ p. statement_columns (bare p)) (with_subject c.as_str-2.result.now c.as_str-3.result.now (placed_of a r))) c.as_str.ensures.value
     ∙ ap₂ (λ d i. map (λ p. statement_columns (bare p)) (with_subject d i (placed_of agent r))) c.as_str-2.ensures.value c.as_str-3.ensures.value
     ∙ sym (map-map statement_columns bare (named r)))
     (λ r stored. all_bare_formed (named r) (All-filter (λ (p : Placed). is_same p.statement.declaration declaration && names_subject rec_is p.statement.details) IsFormedPlaced (placed_of agent r) (own_formed agent r stored)))
-    c.all_values.result (λ xs values. values.items ≡ xs) c.all_values.ensures.values c.all_values.ensures.found
+    c.all_values.ensures.values c.all_values.ensures.found

@@ -1,18 +1,16 @@
-use Rattle.std.proofs.Common.{◌≡◌, map, sym}
+use Rattle.std.proofs.Common.{sym}
 use Rattle.std.specs.List.{flat_map}
 use Rattle.std.proofs.lemmas.Simd.{map-map}
-use Rattle.sqlite.specs.Held.{state}
 use Rattle.bor_store_sql.specs.Rows.Placed.{interest_rows, interest_line, placed}
-use Rattle.bor_store_sql.specs.Rows.Encoding.{interest_columns, interest_line_columns}
+use Rattle.bor_store_sql.specs.Rows.Encoding.{interest_line_columns}
 use Rattle.bor_store_sql.specs.Rows.RowForms.{IsFormedInterestLine}
 use Rattle.bor_store_sql.proofs.OnRows.Formed.{placed_formed, all_interests_formed, all_lines_formed}
-use Rattle.bor_store_reads.proofs.Found.{told}
+use Rattle.bor_store_reads.proofs.Found.{all_told}
 use Rattle.bor_store_reads.proofs.tables.interest_lines.Goals as goal
 
 pub returns : goal.returns
 returns g c =
-    told interest_line_columns IsFormedInterestLine (state g.S.Store c.args.conn.now) (state g.S.Store c.all_interests.new.conn) c.all_interests.result (λ r. map interest_columns (flat_map interest_rows (placed r.members))) c.all_interests.ensures
-    (λ r. map interest_line (flat_map interest_rows (placed r.members)))
+    all_told interest_line_columns IsFormedInterestLine c.all_interests.ensures
     (λ r. sym (map-map interest_line_columns interest_line (flat_map interest_rows (placed r.members))))
     (λ r stored. all_lines_formed (flat_map interest_rows (placed r.members)) (all_interests_formed (placed r.members) (placed_formed r stored)))
-    c.all_values.result (λ xs values. values.items ≡ xs) c.all_values.ensures.values c.all_values.ensures.found
+    c.all_values.ensures.values c.all_values.ensures.found

@@ -1,16 +1,15 @@
-use Rattle.std.proofs.Common.{◌≡◌, map, sym}
+use Rattle.std.proofs.Common.{sym}
 use Rattle.std.proofs.lemmas.Simd.{map-map}
-use Rattle.sqlite.specs.Held.{state}
 use Rattle.bor_store_sql.specs.Rows.Placed.{bare, placed}
 use Rattle.bor_store_sql.specs.Rows.Encoding.{statement_columns}
 use Rattle.bor_store_sql.specs.Rows.RowForms.{IsFormedStatementRow}
 use Rattle.bor_store_sql.proofs.OnRows.Formed.{placed_formed, all_bare_formed}
-use Rattle.bor_store_reads.proofs.Found.{told}
+use Rattle.bor_store_reads.proofs.Found.{all_told}
 use Rattle.bor_store_reads.proofs.tables.statements.Goals as goal
 
 pub returns : goal.returns
 returns g c =
-    told statement_columns IsFormedStatementRow (state g.S.Store c.args.conn.now) (state g.S.Store c.all_statements.new.conn) c.all_statements.result (λ r. map (λ p. statement_columns (bare p)) (placed r.members)) c.all_statements.ensures (λ r. map bare (placed r.members))
+    all_told statement_columns IsFormedStatementRow c.all_statements.ensures
     (λ r. sym (map-map statement_columns bare (placed r.members)))
     (λ r stored. all_bare_formed (placed r.members) (placed_formed r stored))
-    c.all_values.result (λ xs values. values.items ≡ xs) c.all_values.ensures.values c.all_values.ensures.found
+    c.all_values.ensures.values c.all_values.ensures.found

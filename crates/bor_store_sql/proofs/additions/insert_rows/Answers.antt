@@ -1,16 +1,15 @@
-use Rattle.std.proofs.Common.{[], ◌∙◌}
-use Rattle.std.proofs.lemmas.Result.{IfOk-from_err}
 use Rattle.sqlite.specs.Held.{state}
-use Rattle.bor_store_sql.specs.Rows.Placed.{placed_from}
-use Rattle.bor_store_sql.specs.Changing.{Any, live_filing, with_filing_row, with_placed}
-use Rattle.bor_store_sql.proofs.Moves.{both_step, err_open, fails, first_open}
+use Rattle.std.proofs.Common.{◌∙◌}
+use Rattle.std.proofs.lemmas.Result.{IfOk-from_err}
+use Rattle.bor_store_sql.proofs.Lists.{placed_in_turn}
+use Rattle.bor_store_sql.proofs.Moves.{both_step, err_open, fails, first_open, turned}
 use Rattle.bor_store_sql.proofs.additions.insert_rows.Goals as goal
 
 pub returns-in_err-insert_filing : goal.returns-in_err-insert_filing
 returns-in_err-insert_filing g c = record {
   same_reference = c.in_err-insert_filing.ensures.same_reference;
   ran_open = err_open (state g.S.Store c.args.tx.now.conn.now) (state g.S.Store c.insert_filing.new.tx.conn.now) c.from_residual.result c.from_residual.ensures.0;
-  steps = fails _ _ _ _ _ c.from_residual.result c.from_residual.ensures.0 c.in_err-insert_filing.ensures.steps;
+  steps = fails c.from_residual.ensures.0 c.in_err-insert_filing.ensures.steps;
   counted = IfOk-from_err c.from_residual.result _ c.from_residual.ensures.0;
 }
 
@@ -18,7 +17,6 @@ pub returns : goal.returns
 returns g c = record {
   same_reference = c.insert_statements.ensures.same_reference ∙ c.in_ok-insert_filing.ensures.same_reference;
   ran_open = first_open (state g.S.Store c.args.tx.now.conn.now) (state g.S.Store c.insert_filing.new.tx.conn.now) (state g.S.Store c.insert_statements.new.tx.conn.now) c.insert_statements.result c.in_ok-insert_filing.ensures.ran_open c.insert_statements.ensures.steps.clean;
-  steps = both_step Any (with_filing_row c.args.agent.now (live_filing c.args.number c.args.key.now c.args.due c.args.bytes.now [])) (with_placed (placed_from c.args.agent.now c.args.number 1 c.args.statements.now))
-      (state g.S.Store c.args.tx.now.conn.now) (state g.S.Store c.insert_filing.new.tx.conn.now) (state g.S.Store c.insert_statements.new.tx.conn.now) c.insert_statements.result c.in_ok-insert_filing.ensures.steps c.insert_statements.ensures.steps;
+  steps = turned (λ t. placed_in_turn c.args.filing.agent c.args.filing.number 1 c.args.statements.now _) (both_step c.in_ok-insert_filing.ensures.steps c.insert_statements.ensures.steps);
   counted = c.insert_statements.ensures.counted;
 }

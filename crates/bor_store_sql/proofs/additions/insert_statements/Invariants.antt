@@ -1,17 +1,18 @@
 use Rattle.std.proofs.Common.{◌≡◌, ◌<◌, ◌^◌, Ok, take}
 use Rattle.std.specs.Prelude.{All}
 use Rattle.sqlite.specs.Held.{state}
-use Rattle.bor_store_sql.specs.Rows.Placed.{placed_from}
+use Rattle.bor_store_sql.specs.Fitting.{standing}
 use Rattle.bor_store_sql.specs.Rows.Stored.{IsCounted}
-use Rattle.bor_store_sql.specs.Changing.{Any, with_placed}
+use Rattle.bor_store_sql.specs.Changing.{Any, in_turn, with_one_placed}
 use Rattle.bor_store_sql.specs.Shown.{StepsTo}
 use Rattle.bor_store_sql.proofs.additions.insert_statements.Given as goal
 
--- the rows so far are inserted
+-- the statements so far are put down
 abbrev pub invariant-loop-statement : goal.invariant-loop-statement
-invariant-loop-statement g l =
-    (l.tx.conn.ghost_name ≡ l.fn.tx.conn.ghost_name)
-    × (l.place ≡ l.statement-index)
-    × StepsTo Any (with_placed (placed_from l.agent l.number 1 (take l.statement-index l.statements))) (state g.S.Store l.fn.tx.conn.now) (state g.S.Store l.tx.conn.now) (Ok (tt {0}))
-    × (l.place < 2 ^ 32)
-    × All IsCounted (take l.statement-index l.statements)
+invariant-loop-statement g l = record {
+  same_reference : l.tx.conn.ghost_name ≡ l.fn.tx.conn.ghost_name;
+  at : l.at ≡ record { agent = l.fn.filing.agent; filing = l.fn.filing.number; place = l.statement-index };
+  within : l.at.place < 2 ^ 32;
+  steps : StepsTo Any (in_turn (λ place s. with_one_placed (standing l.fn.filing.agent l.fn.filing.number place s)) 1 (take l.statement-index l.statements)) (state g.S.Store l.fn.tx.conn.now) (state g.S.Store l.tx.conn.now) (Ok (tt {0}));
+  each : All IsCounted (take l.statement-index l.statements);
+}

@@ -14,8 +14,8 @@ returns-in_err-rows g c = no_answer _ _ c.in_err-rows.ensures.reads c.from_resid
 
 pub returns : goal.returns
 returns g c =
-    let at : At = record { agent = c.args.agent.now; filing = c.args.number; place = c.args.place } in
+    let at : At = c.args.at.now in
     let made = λ (n : ℕ) (x : Identifier). identifier_columns (record { at = at; item = n; identifier = x }) in
     let from = λ (n : ℕ) (xs : List Identifier). map identifier_columns (identifiers_from at n xs) in
-    told_of_rows (Pairwise (λ n x row. row ≡ made n x) 1 c.args.identifiers.now) _ _ c.in_ok-rows.rows _ c.as_slice.result.now c.are_identifiers.result c.in_ok-rows.ensures c.as_slice.ensures.value c.are_identifiers.ensures
+    told_of_rows (Pairwise (λ n x row. row ≡ made n x) 1 c.args.identifiers.now) _ _ c.in_ok-rows.rows _ c.as_slice.result.now c.are_items.result c.in_ok-rows.ensures c.as_slice.ensures.value c.are_items.ensures
     (λ r. (λ h. made_from made from (λ n. refl) (λ n x xs. refl) 1 c.args.identifiers.now (map identifier_columns (identifiers_at at r.members)) h, λ e. all_made made from (λ n. refl) (λ n x xs. refl) 1 c.args.identifiers.now (map identifier_columns (identifiers_at at r.members)) e))

@@ -20,12 +20,12 @@ returns-in_err-keeps_interests g c = no_answer _ _ c.in_err-keeps_interests.ensu
 
 pub returns-then-not-branch : goal.returns-then-not-branch
 returns-then-not-branch g c =
-    let at : At = record { agent = c.args.agent.now; filing = c.args.number; place = c.args.place } in
+    let at : At = c.args.at.now in
     told_unless _ _ _ c.if-not-branch.true c.in_ok-keeps_interests.ensures (λ r h. subst (HasInterests at r) (sym c.interests.ensures) h.interests)
 
 pub returns : goal.returns
 returns g c =
-    let at : At = record { agent = c.args.agent.now; filing = c.args.number; place = c.args.place } in
+    let at : At = c.args.at.now in
     let first = c.in_ok-keeps_interests.ensures in
     told_after _ _ first.reads _ c.keeps_identifiers.result c.keeps_identifiers.ensures (λ clean r shows. (
       λ ids. record {

@@ -1,15 +1,11 @@
-use Rattle.std.proofs.Common.{subst}
-use Rattle.sqlite.specs.Held.{state}
-use Rattle.bor_store_sql.specs.declared.texts.queries.TheConstants.{AGENT_BY_NAME}
-use Rattle.bor_store_sql.specs.Found.{AnswersQuery}
-use Rattle.bor_store_sql.proofs.KeyedReads.{agent_by_name_finds}
-use Rattle.bor_store_sql.proofs.Plain.{agent_by_name_asks}
+use Rattle.bor_store_sql.proofs.OnTexts.QueryMeanings.{agent_by_name_is}
+use Rattle.bor_store_sql.proofs.Plain.{is_query}
+use Rattle.bor_store_sql.proofs.Finding.{finds}
+use Rattle.bor_store_sql.proofs.Selecting.{agent_by_name_found}
 use Rattle.bor_store_sql.proofs.keyed.agent_by_name.Goals as goal
 
 pub query-requires : goal.query-requires
-query-requires g c = agent_by_name_asks
+query-requires g c = is_query agent_by_name_is
 
 pub returns : goal.returns
-returns g c =
-    let asked = subst (λ params. AnswersQuery AGENT_BY_NAME.now params (state g.S.Store c.args.conn.now) (state g.S.Store c.query.new.conn) c.query.result) c.one_text.ensures c.query.ensures in
-    agent_by_name_finds c.args.name.now (state g.S.Store c.args.conn.now) (state g.S.Store c.query.new.conn) c.query.result asked
+returns g c = finds c.query.ensures c.one_text.ensures (agent_by_name_found c.args.name.now)

@@ -1,15 +1,11 @@
-use Rattle.std.proofs.Common.{subst}
-use Rattle.sqlite.specs.Held.{state}
-use Rattle.bor_store_sql.specs.declared.texts.queries.TheConstants.{LINE_BY_NUMBER}
-use Rattle.bor_store_sql.specs.Found.{AnswersQuery}
-use Rattle.bor_store_sql.proofs.KeyedReads.{line_by_number_finds}
-use Rattle.bor_store_sql.proofs.Plain.{line_by_number_asks}
+use Rattle.bor_store_sql.proofs.OnTexts.QueryMeanings.{line_by_number_is}
+use Rattle.bor_store_sql.proofs.Plain.{is_query}
+use Rattle.bor_store_sql.proofs.Finding.{finds}
+use Rattle.bor_store_sql.proofs.Selecting.{line_by_number_found}
 use Rattle.bor_store_sql.proofs.keyed.line_by_number.Goals as goal
 
 pub query-requires : goal.query-requires
-query-requires g c = line_by_number_asks
+query-requires g c = is_query line_by_number_is
 
 pub returns : goal.returns
-returns g c =
-    let asked = subst (λ params. AnswersQuery LINE_BY_NUMBER.now params (state g.S.Store c.args.conn.now) (state g.S.Store c.query.new.conn) c.query.result) c.filing_key.ensures c.query.ensures in
-    line_by_number_finds c.args.agent.now c.args.number (state g.S.Store c.args.conn.now) (state g.S.Store c.query.new.conn) c.query.result asked
+returns g c = finds c.query.ensures c.filing_key.ensures (line_by_number_found c.args.agent.now c.args.number)

@@ -1,15 +1,11 @@
-use Rattle.std.proofs.Common.{subst}
-use Rattle.sqlite.specs.Held.{state}
-use Rattle.bor_store_sql.specs.declared.texts.queries.TheConstants.{STATEMENTS_OF_FILING}
-use Rattle.bor_store_sql.specs.Found.{AnswersQuery}
-use Rattle.bor_store_sql.proofs.BothKeyed.{statements_of_filing_finds}
-use Rattle.bor_store_sql.proofs.Plain.{statements_of_filing_asks}
+use Rattle.bor_store_sql.proofs.OnTexts.QueryMeanings.{statements_of_filing_is}
+use Rattle.bor_store_sql.proofs.Plain.{is_query}
+use Rattle.bor_store_sql.proofs.Finding.{finds}
+use Rattle.bor_store_sql.proofs.BothKeyed.{statements_of_filing_found}
 use Rattle.bor_store_sql.proofs.keyed.statements_of_filing.Goals as goal
 
 pub query-requires : goal.query-requires
-query-requires g c = statements_of_filing_asks
+query-requires g c = is_query statements_of_filing_is
 
 pub returns : goal.returns
-returns g c =
-    let asked = subst (λ params. AnswersQuery STATEMENTS_OF_FILING.now params (state g.S.Store c.args.conn.now) (state g.S.Store c.query.new.conn) c.query.result) c.filing_key.ensures c.query.ensures in
-    statements_of_filing_finds c.args.agent.now c.args.number (state g.S.Store c.args.conn.now) (state g.S.Store c.query.new.conn) c.query.result asked
+returns g c = finds c.query.ensures c.filing_key.ensures (statements_of_filing_found c.args.agent.now c.args.number)

@@ -11,14 +11,14 @@ pub returns-in_err-create_period : goal.returns-in_err-create_period
 returns-in_err-create_period g c = record {
   same_reference = c.in_err-create_period.ensures.same_reference;
   ran_open = err_open (state g.S.Store c.args.tx.now.conn.now) (state g.S.Store c.create_period.new.tx.conn.now) c.from_residual.result c.from_residual.ensures.0;
-  moves = fails _ _ _ _ _ c.from_residual.result c.from_residual.ensures.0 c.in_err-create_period.ensures.moves;
+  moves = fails c.from_residual.ensures.0 c.in_err-create_period.ensures.moves;
 }
 
 pub returns-in_err-put_rows : goal.returns-in_err-put_rows
 returns-in_err-put_rows g c = record {
   same_reference = c.in_err-put_rows.ensures.same_reference ∙ c.in_ok-create_period.ensures.same_reference;
   ran_open = err_open (state g.S.Store c.args.tx.now.conn.now) (state g.S.Store c.put_rows.new.tx.conn.now) c.from_residual-in_err-put_rows.result c.from_residual-in_err-put_rows.ensures.0;
-  moves = then_fails _ _ _ _ _ _ _ c.from_residual-in_err-put_rows.result c.from_residual-in_err-put_rows.ensures.0 c.in_ok-create_period.ensures.moves c.in_err-put_rows.ensures.moves;
+  moves = then_fails c.from_residual-in_err-put_rows.ensures.0 c.in_ok-create_period.ensures.moves c.in_err-put_rows.ensures.moves;
 }
 
 pub returns : goal.returns

@@ -7,7 +7,7 @@ use Rattle.bor_store_sql.proofs.Moves.{both_move, no_periods_put, none_moves, on
 use Rattle.bor_store_sql.proofs.moving.put_rows.Goals as goal
 
 pub loop-period-init : goal.loop-period-init
-loop-period-init g c = (refl, none_moves _ _ (no_periods_put _))
+loop-period-init g c = (refl, none_moves (no_periods_put _))
 
 pub loop-period-preserved : goal.loop-period-preserved
 loop-period-preserved g c =
@@ -24,7 +24,7 @@ loop-period-preserved g c =
 pub returns-in_err-put_row : goal.returns-in_err-put_row
 returns-in_err-put_row g c = record {
   same_reference = c.in_err-put_row.ensures.same_reference ∙ c.loop-period.invariant.0;
-  moves = then_fails _ _ _ _ _ _ _ c.from_residual.result c.from_residual.ensures.0 c.loop-period.invariant.1 c.in_err-put_row.ensures.moves;
+  moves = then_fails c.from_residual.ensures.0 c.loop-period.invariant.1 c.in_err-put_row.ensures.moves;
 }
 
 pub returns : goal.returns

@@ -1,10 +1,12 @@
 use Rattle.std.proofs.Common.{refl}
-use Rattle.sqlite.specs.Held.{state}
-use Rattle.bor_store_sql.proofs.PeriodReads.{all_periods_asks, all_periods_finds}
+use Rattle.bor_store_sql.proofs.OnTexts.QueryMeanings.{all_periods_is}
+use Rattle.bor_store_sql.proofs.Plain.{is_query}
+use Rattle.bor_store_sql.proofs.Finding.{finds}
+use Rattle.bor_store_sql.proofs.PeriodReads.{all_periods_found}
 use Rattle.bor_store_sql.proofs.reads.all_periods.Goals as goal
 
 pub query-requires : goal.query-requires
-query-requires g c = all_periods_asks
+query-requires g c = is_query all_periods_is
 
 pub returns : goal.returns
-returns g c = all_periods_finds _ (state g.S.Store c.args.conn.now) (state g.S.Store c.query.new.conn) c.query.result c.query.ensures refl
+returns g c = finds c.query.ensures refl all_periods_found

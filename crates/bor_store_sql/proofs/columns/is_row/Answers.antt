@@ -4,7 +4,7 @@ use Rattle.sqlite.specs.Values.{bound, bound_value}
 use Rattle.sqlite_value.specs.Value.{owned}
 use Rattle.sqlite_value.specs.declared.value.Value.TheVariants.{Null}
 use Rattle.sqlite_value.specs.declared.value.ValueRef.{ValueRef}
-use Rattle.bor_store_sql.proofs.fitting.is_row.Goals as goal
+use Rattle.bor_store_sql.proofs.columns.is_row.Goals as goal
 
 pub returns : goal.returns
 returns c =

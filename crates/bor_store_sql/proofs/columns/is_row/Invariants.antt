@@ -1,7 +1,7 @@
 use Rattle.std.proofs.Common.{◌≡◌, ◌<◌, ℕ}
 use Rattle.sqlite.specs.Order.{column}
 use Rattle.sqlite.specs.Values.{bound}
-use Rattle.bor_store_sql.proofs.fitting.is_row.Given as goal
+use Rattle.bor_store_sql.proofs.columns.is_row.Given as goal
 
 -- the columns so far have these values
 abbrev pub invariant-loop-at : goal.invariant-loop-at
