@@ -6,7 +6,7 @@ use Rattle.bor_records.specs.Promises.{Meaning, Promised}
 use Rattle.bor_register.specs.Register.{Register}
 use Rattle.bor_wire.specs.Sent.{Sent}
 use Rattle.bor_wire.specs.Answering.{Responds}
-use Rattle.bor_program.specs.Connections.Serving.{GivenReply, IsServing, answer_of}
+use Rattle.bor_program.specs.Connections.Serving.{GivenReply, IsServing, given_reply}
 use Rattle.bor_program.specs.declared.log.Note.{Note}
 use Rattle.bor_program.specs.Logging.{IsNoteOf, MayNote}
 use Rattle.bor_program.specs.Connections.Streams.{EndedOn, Wire}
@@ -27,11 +27,11 @@ same_step meaning wire keep this that notes same = λ start others tally noted b
 
 -- a reply in memory is an answer
 pub answer_step : {K S Left : Type 0} (meaning : Meaning K Register Left StoreFault) (wire : Wire S) (old new : K) (request : List ℕ) (reply : Sent) (that : List GivenReply) (before after : List Note)
-    → that ≡ answer_of request reply ∷ [] → Responds meaning old new request reply → MayNote (IsNoteOf (Promised meaning old new) request reply) before after
+    → that ≡ given_reply request reply ∷ [] → Responds meaning old new request reply → MayNote (IsNoteOf (Promised meaning old new) request reply) before after
     → IsStep meaning wire (stand_at old [] before) (stand_at new that after)
 answer_step meaning wire old new request reply that before after is responds notes = λ start others tally noted was.
     subst (λ l. IsServing meaning (EndedOn wire) start new (l ++ others) (record tally { notes = noted ++ after })) (sym is)
-    (answers meaning (EndedOn wire) start old new others tally (answer_of request reply) noted before after was notes responds)
+    (answers meaning (EndedOn wire) start old new others tally (given_reply request reply) noted before after was notes responds)
 
 pub then_steps : {K S Left : Type 0} (meaning : Meaning K Register Left StoreFault) (wire : Wire S) (this between that : Stand K)
     → IsStep meaning wire this between → IsStep meaning wire between that → IsStep meaning wire this that

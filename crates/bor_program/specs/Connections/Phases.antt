@@ -8,7 +8,7 @@ use Rattle.bor_program.specs.declared.connections.phase.Phase.{Phase}
 use Rattle.bor_program.specs.declared.connections.phase.Phase.TheVariants as phase
 use Rattle.bor_program.specs.declared.connections.phase.Step.{Step}
 use Rattle.bor_program.specs.declared.connections.phase.Step.TheVariants as step
-use Rattle.bor_program.specs.Connections.Serving.{GivenReply, Ended, IsServing, Tally, answer_of}
+use Rattle.bor_program.specs.Connections.Serving.{GivenReply, Ended, IsServing, Tally, given_reply}
 use Rattle.bor_program.specs.Connections.Serving.{has_failed, is_absent, told_on}
 use Rattle.bor_program.specs.Connections.Streams.{EndedOn, IsDraining, IsReading, IsWriting}
 use Rattle.bor_program.specs.Connections.Streams.{KeepsAll, Wire}
@@ -16,8 +16,8 @@ use Rattle.bor_program.specs.Connections.Streams.{KeepsAll, Wire}
 -- the answer that is being sent to a client
 abbrev pub telling : {S : Type 0} → Phase S → List GivenReply
 telling (phase.Reading reading) = []
-telling (phase.Writing writing) = answer_of writing.request.value.items writing.reply ∷ []
-telling (phase.Draining draining) = answer_of draining.request.value.items draining.reply ∷ []
+telling (phase.Writing writing) = given_reply writing.request.value.items writing.reply ∷ []
+telling (phase.Draining draining) = given_reply draining.request.value.items draining.reply ∷ []
 
 -- the facts that are known of a client in its phase
 abbrev pub IsHeld : {S : Type 0} → Wire S → Phase S → Type 0
@@ -25,10 +25,10 @@ IsHeld wire (phase.Reading reading) =
     IsReading wire.remaining reading.stream reading.received.items reading.progress
 IsHeld wire (phase.Writing writing) =
     IsWriting wire writing.stream
-    (answer_of writing.request.value.items writing.reply) writing.sent
+    (given_reply writing.request.value.items writing.reply) writing.sent
 IsHeld wire (phase.Draining draining) =
     IsDraining wire draining.stream
-    (answer_of draining.request.value.items draining.reply) draining.left
+    (given_reply draining.request.value.items draining.reply) draining.left
 
 -- a client whose request is still read has been so from the first, and nothing that was read of it
 -- is forgotten

@@ -24,8 +24,8 @@ pub record GivenReply : Type 0 where
   pub request : List ℕ
   pub reply : Sent
 
-abbrev pub answer_of : List ℕ → Sent → GivenReply
-answer_of request reply = record { request = request; reply = reply }
+abbrev pub given_reply : List ℕ → Sent → GivenReply
+given_reply request reply = record { request = request; reply = reply }
 
 -- an answer, and the keep that it left
 pub record Answered (K : Type 0) : Type 0 where

@@ -1,7 +1,7 @@
 //! One step of a client.
 
 ghost use Rattle.std.specs.Prelude.{◌≡◌, false, ◌∷◌, [], None, Option};
-ghost use Rattle.bor_program.specs.Connections.Serving.{answer_of};
+ghost use Rattle.bor_program.specs.Connections.Serving.{given_reply};
 ghost use Rattle.bor_program.specs.declared.connections.phase.Phase.TheVariants as Phase;
 ghost use Rattle.bor_program.specs.declared.connections.taking.Taking.{Taking};
 ghost use Rattle.bor_program.specs.Connections.Phases.{EndsAs, IsHeld, IsStep, ReadsOn, phase_of, stand_at, telling};
@@ -86,7 +86,7 @@ fn write_on<S: Read + Write + OpenStream + Drop>(mut writing: Writing<S>) -> Ste
     requires { IsHeld (wire_of S.remaining S.contents) (Phase.Writing writing) }
     ensures held { IsHeld (wire_of S.remaining S.contents) (phase_of result) }
     ensures tells { telling (phase_of result)
-        ≡ answer_of writing.request.value.items writing.reply ∷ [] }
+        ≡ given_reply writing.request.value.items writing.reply ∷ [] }
     ensures all { ReadsOn S.remaining (Phase.Writing writing) (phase_of result) }
     ensures time { IsTaking writing.taking (phase_of result) }
     ensures pace { IsPaced (Phase.Writing writing) result }
@@ -105,7 +105,7 @@ fn drain_on<S: Read + Write + Drop>(mut draining: Draining<S>) -> Step<S>
     requires { IsHeld (wire_of S.remaining S.contents) (Phase.Draining draining) }
     ensures held { IsHeld (wire_of S.remaining S.contents) (phase_of result) }
     ensures tells { telling (phase_of result)
-        ≡ answer_of draining.request.value.items draining.reply ∷ [] }
+        ≡ given_reply draining.request.value.items draining.reply ∷ [] }
     ensures all { ReadsOn S.remaining (Phase.Draining draining) (phase_of result) }
     ensures time { (taking : Option Taking) → IsTaking taking (phase_of result) }
     ensures pace { IsPaced (Phase.Draining draining) result }

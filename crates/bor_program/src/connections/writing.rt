@@ -5,7 +5,7 @@ ghost use Rattle.bor_http.specs.Incoming.Message.{request_limit};
 ghost use Rattle.bor_wire.specs.Sent.{bytes_sent, status_sent};
 ghost use Rattle.bor_program.specs.declared.connections.writing.Drained.TheVariants as Drained;
 ghost use Rattle.bor_program.specs.declared.connections.writing.Written.TheVariants as Written;
-ghost use Rattle.bor_program.specs.Connections.Serving.{Told, answer_of, has_failed};
+ghost use Rattle.bor_program.specs.Connections.Serving.{Told, given_reply, has_failed};
 ghost use Rattle.bor_program.specs.Connections.Streams.{Came, Drops, IsDraining, IsReady, IsWriting, MayBeUnread, wire_of};
 ghost use Rattle.bor_program.specs.Connections.Times.{IsReplyLeft, IsSlow, begun, taking_after};
 
@@ -81,9 +81,9 @@ impl<S: Read + Write + OpenStream> Writing<S> {
         requires came { Came S.remaining reading.stream reading.received.items }
         requires fits { length reading.received.items ≤ request_limit }
         requires ready { IsReady S.remaining reading.stream
-            (answer_of reading.received.items reply) }
+            (given_reply reading.received.items reply) }
         ensures held { IsWriting (wire_of S.remaining S.contents) result.stream
-            (answer_of result.request.value.items result.reply) result.sent }
+            (given_reply result.request.value.items result.reply) result.sent }
         ensures request { result.request.value.items ≡ reading.received.items }
         ensures reply { result.reply ≡ reply }
         ensures taking { result.taking ≡ None }
@@ -102,9 +102,9 @@ impl<S: Read + Write + OpenStream> Writing<S> {
     /// Writes once.
     pub(crate) fn write(&mut self) -> Written
         requires { IsWriting (wire_of S.remaining S.contents) self.old.stream
-            (answer_of self.old.request.value.items self.old.reply) self.old.sent }
+            (given_reply self.old.request.value.items self.old.reply) self.old.sent }
         ensures held { IsWriting (wire_of S.remaining S.contents) self.new.stream
-            (answer_of self.new.request.value.items self.new.reply) self.new.sent }
+            (given_reply self.new.request.value.items self.new.reply) self.new.sent }
         ensures request { self.new.request ≡ self.old.request }
         ensures reply { self.new.reply ≡ self.old.reply }
         ensures taking { self.new.taking ≡ self.old.taking }
@@ -131,7 +131,7 @@ impl<S: Read + Write + OpenStream> Writing<S> {
     /// Whether its connection has failed, where it ends now.
     pub(crate) fn has_failed(&self) -> bool
         ensures { result ≡ has_failed
-            (Told (answer_of self.now.request.value.items self.now.reply) self.now.sent) }
+            (Told (given_reply self.now.request.value.items self.now.reply) self.now.sent) }
     {
         self.reply.status() == 503 || self.sent < self.reply.bytes().len()
     }
@@ -140,9 +140,9 @@ impl<S: Read + Write + OpenStream> Writing<S> {
     pub(crate) fn end(self) -> Draining<S>
         requires whole { self.sent ≡ length (bytes_sent self.reply) }
         requires held { IsWriting (wire_of S.remaining S.contents) self.stream
-            (answer_of self.request.value.items self.reply) self.sent }
+            (given_reply self.request.value.items self.reply) self.sent }
         ensures held { IsDraining (wire_of S.remaining S.contents) result.stream
-            (answer_of result.request.value.items result.reply) result.left }
+            (given_reply result.request.value.items result.reply) result.left }
         ensures request { result.request ≡ self.request }
         ensures reply { result.reply ≡ self.reply }
         ensures waited { IsTrue result.is_waited_for ↔ MayBeUnread (status_sent self.reply) }
@@ -198,7 +198,7 @@ impl<S: Read + Write> Draining<S> {
     /// Whether its connection has failed: the reply is the one that says that the store failed.
     pub(crate) fn has_failed(&self) -> bool
         ensures { result ≡ has_failed
-            (Told (answer_of self.now.request.value.items self.now.reply)
+            (Told (given_reply self.now.request.value.items self.now.reply)
             (length (bytes_sent self.now.reply))) }
     {
         self.reply.status() == 503
