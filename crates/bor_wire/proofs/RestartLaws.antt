@@ -94,7 +94,7 @@ exchanges_compose {K} shows r keep next es others legal run more =
       spells = subst (λ (xs : List (Exchanged K)). AreSpelledBy xs spelled) (sym told) (zip-append (λ (e : Exchanged K) s. Spells e.input s) (answered es) run.spelled (answered others) more.spelled run.spells more.spells);
       over = run_over (shows (keep_left next others)) r spelled (bytes_in (answered (es ++ others))) legal replies (subst (shows (keep_left next others)) (sym left) more.over.left);
     } in
-    (both, refl)
+    (both, refl, ap bytes_in told ∙ bytes)
 
 -- ---- an agent's filings
 

@@ -38,6 +38,8 @@ not_less a b le = grind (arith, nat_tests)
 pub body_there : (parts : Parts) (behind : List ℕ) (len : ℕ) → len ≤ length behind → body_of parts behind len ≡ Ok (record { parts = parts; body = take len behind })
 body_there parts behind len le = rw (not_less (length behind) len le) refl
 
+-- ---- an input, part by part
+
 -- the front that is looked through for a head
 pub front_is : (input : List ℕ) (k : ℕ) → k ≡ min head_limit (length input) → take head_limit input ≡ take k input
 front_is input k e = sym (ap (λ n. take n input) e ∙ take_min head_limit input)
