@@ -1,7 +1,8 @@
 pub mod BodyLines
-pub mod BufferLemmas
+pub mod Bounds
 pub mod ByTable
 pub mod FieldLemmas
+pub mod Gathered
 pub mod HeadLemmas
 pub mod Laws
 pub mod LengthLemmas

@@ -6,6 +6,5 @@ pub mod Running
 pub mod Streams
 pub mod Places
 pub mod Times
-pub mod Bounds
 pub mod Waits
 pub mod Remaining

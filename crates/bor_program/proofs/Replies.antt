@@ -25,7 +25,8 @@ use Rattle.bor_wire.specs.Refused.{IsFull}
 use Rattle.bor_wire.specs.Rendering.Heads.{status_line}
 use Rattle.bor_wire.specs.Replays.{IsReplayed}
 use Rattle.bor_wire.specs.Runs.{AreSpelled, full, served}
-use Rattle.bor_wire.specs.Turns.{InTurn}
+use Rattle.std.proofs.lemmas.List.Elements.{All-nil}
+use Rattle.bor_wire.specs.Turns.{AnswersClean, InTurn, IsTurn}
 use Rattle.bor_wire.proofs.SequenceLaws.{run_over}
 use Rattle.bor_program.proofs.Ends.{part_none}
 use Rattle.bor_program.proofs.FilesRead.{none_read}
@@ -115,7 +116,7 @@ none_yet : {K Left : Type 0} (meaning : Meaning K Register Left StoreFault) (sta
 none_yet meaning state = record {
   began = λ clean. clean;
   answers = λ r shown clean legal. record { count = refl; spelled = []; spells = tt; run = run_over (meaning.shows state) r [] [] legal tt shown };
-  in_turn = record { exchanges = []; turns = tt; each = tt; answer_clean = tt; left = refl };
+  in_turn = record { exchanges = []; inputs_are = refl; replies_are = refl; turns = All-nil IsTurn; each = tt; answer_clean = All-nil (AnswersClean meaning); left = refl };
 }
 
 -- nothing was answered, and the register is as it was

@@ -5,7 +5,7 @@ use bor_chains::Node;
 use bor_desk::operations::{Keep, ListKeep};
 use bor_desk::{DeskReply, answer};
 use bor_terms::{Day, Form, Text};
-use bor_wire::{Counted, parse, read_request};
+use bor_wire::{message_in, parse};
 use std::alloc::Global;
 use std::process::Abort;
 
@@ -72,8 +72,7 @@ pub(crate) fn answered<K: Keep>(
     ask: Ask<'_>,
 ) -> DeskReply {
     let input = request(rt, alloc, ask);
-    let mut reader = Counted::new(input.as_slice());
-    let raw = read_request(alloc, &mut reader).expect(rt, "no request");
+    let raw = message_in(alloc, &input).expect(rt, "no request");
     let asking = parse(alloc, &raw).expect(rt, "no request");
     answer(alloc, keep, &asking.token, &asking.request)
 }

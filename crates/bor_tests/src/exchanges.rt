@@ -114,6 +114,20 @@ fn a_writer_that_fails_has_a_front_of_the_reply(rt: HostRuntime) {
     }
 }
 
+// A reader that has ended is asked no more, and one that is asked again counts it.
+#[test]
+fn an_end_is_met_once(rt: HostRuntime) {
+    let alloc = rt.alloc();
+    let mut keep = keep_of_two(&rt, alloc);
+    let mut reader = Counted::new(Drip::new(b"GET /filings", 5));
+    let mut gate = Gate::open(alloc);
+    let told = exchanged_with(alloc, &mut keep, &mut reader, &mut gate);
+    holds(&rt, "refused", told == (Outcome::Replied(400), 0));
+    holds(&rt, "once", reader.late() == 0);
+    let _ = exchanged_with(alloc, &mut keep, &mut reader, &mut gate);
+    holds(&rt, "again", reader.late() == 1);
+}
+
 // A reader and a writer that fail once and go on: nothing is read or written a second time.
 #[test]
 fn a_fault_is_counted_once(rt: HostRuntime) {

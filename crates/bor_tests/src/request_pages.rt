@@ -6,7 +6,7 @@ use bor_desk::operations::ListKeep;
 use bor_desk::{DeskReply, Request, answer};
 use bor_http::routes::{Paths, Route, allow_of, route_at};
 use bor_wire::rendering::{RESERVED, render_refusal};
-use bor_wire::{Counted, Outcome, Path, Refusal, exchange, parse, read_request};
+use bor_wire::{Counted, Outcome, Path, Refusal, exchange, message_in, parse, read_request};
 use bor_words::Command;
 
 #[test]
@@ -33,7 +33,8 @@ fn the_page_of_the_desk(rt: HostRuntime) {
 #[test]
 fn the_page_of_requests(rt: HostRuntime) {
     let mut reader = Counted::new(b"GET /filings HTTP/1.1\r\nHost: localhost\r\n\r\n".as_slice());
-    let request = read_request(rt.alloc(), &mut reader).expect(&rt, "refused");
+    let bytes = read_request(rt.alloc(), &mut reader).expect(&rt, "memory");
+    let request = message_in(rt.alloc(), &bytes).expect(&rt, "refused");
     let told = [
         request.method() == b"GET".as_slice(),
         request.target() == b"/filings".as_slice(),
@@ -59,8 +60,7 @@ fn the_page_of_routes(rt: HostRuntime) {
 fn the_page_of_what_a_request_asks(rt: HostRuntime) {
     let alloc = rt.alloc();
     let input = b"GET /filings HTTP/1.1\r\nAuthorization: Bearer alder-token-000001\r\n\r\n";
-    let mut reader = Counted::new(input.as_slice());
-    let request = read_request(alloc, &mut reader).expect(&rt, "refused");
+    let request = message_in(alloc, input).expect(&rt, "refused");
     let asking = parse(alloc, &request).expect(&rt, "refused");
     let is_alders = asking.token.as_str() == "alder-token-000001";
     let told = [is_alders, matches!(asking.request, Request::Filings)];

@@ -20,7 +20,7 @@ use bor_desk::operations::{
     AdvanceFault, Keep, KeepSource, ListKeep, State, WithdrawFault, advance, withdraw,
 };
 use bor_desk::{DeskReply, Refusal};
-use bor_http::incoming::{self, Counted, Name, Path, Progress, RawRequest, read_request, send};
+use bor_http::incoming::{self, Counted, Name, Path, Progress, RawRequest, message_in, send};
 use bor_http::routes::{Paths, Route, allow_of, route_at};
 use bor_program::connections::{Limits, Places};
 use bor_program::log::{Asked, Moment, Note, asked_by};
@@ -476,7 +476,7 @@ fn withdrawals_and_days(rt: HostRuntime) {
     end(&rt, marks, &told);
 }
 
-fn is_request_told(raw: &RawRequest) -> bool {
+fn is_request_told(raw: &RawRequest<'_>) -> bool {
     raw.method() == b"GET".as_slice()
         && raw.target() == b"/filings/f1/file".as_slice()
         && raw.only(b"HOST") == Some(b"localhost")
@@ -501,14 +501,17 @@ fn are_notes_made(paths: &Paths, input: &[u8]) -> bool {
 fn is_input_read(input: &[u8]) -> bool {
     let mut buf = [0; 3];
     let mut reader = Counted::new(input);
-    matches!(reader.read(&mut buf), Ok(3)) && buf == *b"GET" && reader.faults() == 0
+    matches!(reader.read(&mut buf), Ok(3))
+        && buf == *b"GET"
+        && reader.faults() == 0
+        && reader.late() == 0
 }
 
 #[test]
 fn requests_and_routes(rt: HostRuntime) {
     let alloc = rt.alloc();
     let input = request(&rt, alloc, ("alder GET /filings/f1/file", ""));
-    let raw = read_request(alloc, &mut Counted::new(input.as_slice())).expect(&rt, "refused");
+    let raw = message_in(alloc, &input).expect(&rt, "refused");
     let paths = Paths::new(alloc).expect(&rt, "memory");
     let marks = begin(&rt);
     let told = [

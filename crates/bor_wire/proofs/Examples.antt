@@ -1,17 +1,19 @@
 -- The definitions on worked lists.
-use Rattle.std.proofs.Common.{◌≡◌, ℕ, List, [], ◌∷◌, Some, None, Ok, Err, refl, sym, arith, codes, take}
+use Rattle.std.proofs.Common.{◌≡◌, ℕ, List, [], ◌∷◌, Some, None, Ok, Err, refl, codes, take}
+use Rattle.bor_records.specs.Promises.{Meaning}
+use Rattle.bor_register.specs.declared.fault.StoreFault.{StoreFault}
 use Rattle.bor_register.specs.Register.{Register}
 use Rattle.bor_desk.specs.Runs.{Asked}
 use Rattle.bor_desk.specs.declared.request.Request.TheVariants.{Filings}
 use Rattle.bor_http.specs.declared.incoming.fault.Refusal.TheVariants.{NoPath}
-use Rattle.bor_wire.specs.Spelling.Spell.{Spelled}
+use Rattle.bor_wire.specs.Spelling.Spell.{Spelled, Spells}
 use Rattle.bor_wire.specs.Rendering.Replies.{refused, bytes_of}
 use Rattle.bor_wire.specs.declared.outcome.Outcome.TheVariants.{Replied, ReadFailed, WriteFailed}
 use Rattle.bor_wire.specs.Sent.{Sent, Full, Unavailable}
 use Rattle.bor_wire.specs.Runs.{AreReplies, register_left, served, full}
 use Rattle.bor_wire.specs.Histories.{asked_in, replies_to_requests}
-use Rattle.bor_wire.specs.Exchanges.{IsExchanged, read_faults, write_faults}
-use Rattle.bor_wire.proofs.Exchanged.{exchanged_so, no_status, some_status, unread}
+use Rattle.bor_wire.specs.Exchanges.{IsExchanged, IsWritten, read_faults, write_faults}
+use Rattle.bor_wire.specs.Answering.{AnswersOne}
 
 -- ---- which inputs are in a run
 
@@ -62,35 +64,31 @@ refusal r = ((refused NoPath, refl, refl), tt)
 left : (r : Register) → register_left r (Err NoPath ∷ Err NoPath ∷ []) ≡ r
 left r = refl
 
--- ---- one exchange
+-- ---- one input
 
--- Bytes that nobody tells spelled no path: 404 was written, what is shown is as before, and no agent receives anything.
-no_path : (r : Register) → IsExchanged (Replied 404) (λ q. q ≡ r) r None (Some []) (Some (bytes_of (refused NoPath)))
-no_path r = record {
-  unread = λ e. absurd (no_status 404 e);
-  unavailable = λ e. absurd (let is : 404 ≡ 503 = some_status 404 503 e in omega arith);
-  replied = λ status e _. record {
-    spelled = Err NoPath;
-    spells = tt;
-    said = refused NoPath;
-    tells = refl;
-    status_is = some_status status 404 (sym e);
-    bytes = bytes_of (refused NoPath);
-    bytes_are = refl;
-    written = refl;
-    left = refl;
-    exact = tt;
-    alone = λ legal name. tt;
-  };
+-- Bytes that spell no path: the reply has status 404, what is shown is as before, and no agent receives anything.
+no_path : (r : Register) (input : List ℕ) → Spells input (Err NoPath) → IsExchanged (λ q. q ≡ r) r input (Full 404 (bytes_of (refused NoPath)))
+no_path r input spells = record {
+  spelled = Err NoPath;
+  spells = spells;
+  said = refused NoPath;
+  tells = refl;
+  status_is = refl;
+  bytes_are = refl;
+  left = refl;
+  exact = tt;
+  alone = λ legal name. tt;
 }
 
+-- ---- one exchange
+
 -- The writer failed after nine bytes of it.
-cut_off : (r : Register) → IsExchanged (WriteFailed 404) (λ q. q ≡ r) r None (Some []) (Some (take 9 (bytes_of (refused NoPath))))
-cut_off r = exchanged_so (λ q. q ≡ r) r None (WriteFailed 404) 404 (bytes_of (refused NoPath)) (Some []) (Some (take 9 (bytes_of (refused NoPath)))) (refl, 9, refl) (no_path r)
+cut_off : IsWritten (WriteFailed 404) (Full 404 (bytes_of (refused NoPath))) (Some []) (Some (take 9 (bytes_of (refused NoPath))))
+cut_off = (refl, (9, refl))
 
 -- The reader failed: nothing changed and nothing was written.
-not_read : (r : Register) → IsExchanged ReadFailed (λ q. q ≡ r) r None (Some (codes "HTTP")) (Some (codes "HTTP"))
-not_read r = unread (λ q. q ≡ r) r None (Some (codes "HTTP")) (Some (codes "HTTP")) refl refl
+not_read : {K W : Type 0} (meaning : Meaning K Register W StoreFault) (keep : K) → AnswersOne meaning keep keep ReadFailed None (Some (codes "HTTP")) (Some (codes "HTTP"))
+not_read meaning keep = (refl, refl)
 
 -- ---- faults
 

@@ -14,6 +14,7 @@ use Rattle.bor_wire.specs.Spelling.Spell.{Spelled}
 use Rattle.bor_wire.specs.Inputs.{after}
 use Rattle.bor_wire.specs.Runs.{AreReplies}
 use Rattle.bor_wire.specs.Histories.{history_in, received}
+use Rattle.bor_wire.specs.Sequences.{answered, bytes_in}
 use Rattle.bor_wire.specs.Headline.{OwnExchange, own_exchanges, without_replies, replies_in, DraftsStayInvisible, ReportsNameTheJoined, ExchangesKeepDraftsInvisible}
 use Rattle.bor_wire.proofs.HistoryLaws.{same_bytes}
 use Rattle.bor_wire.proofs.ReportLaws.{reports}
@@ -85,7 +86,7 @@ invisible name registrar another day date inputs others spelled worded replies t
 
 pub invisible_in_exchanges : {K : Type 0} (shows : K → Register → Type 0) → ExchangesKeepDraftsInvisible shows
 invisible_in_exchanges shows name registrar another day date keep next exchanges others run too same =
-    same_own name registrar another day date run.spelled too.spelled run.sent too.sent run.over.replies too.over.replies same
+    same_own name registrar another day date run.spelled too.spelled (bytes_in (answered exchanges)) (bytes_in (answered others)) run.over.replies too.over.replies same
 
 pub joined : ReportsNameTheJoined
 joined registrar day inputs spelled replies h = reports (empty_register registrar day) spelled replies h.replied

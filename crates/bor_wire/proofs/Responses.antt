@@ -1,7 +1,6 @@
 -- The reply that goes out for an input, from the one for what it spells.
 use Rattle.bor_register.specs.declared.fault.StoreFault.{StoreFault}
-use Rattle.std.proofs.Common.{◌≡◌, ◌≢◌, ◌≤◌, ℕ, List, true, Option, Some, None, Result, Ok, Err, inl, refl, sym, subst, ◌∙◌, arith}
-use Rattle.std.specs.Option.{IfSome}
+use Rattle.std.proofs.Common.{◌≡◌, ◌≢◌, ◌≤◌, ℕ, List, true, Option, Some, None, Ok, Err, inl, refl, sym, subst, ◌∙◌, arith}
 use Rattle.bor_records.specs.Promises.{Leaves, Meaning}
 use Rattle.bor_register.specs.declared.caller.Caller.{Caller}
 use Rattle.bor_register.specs.Register.{Register, caller_of}
@@ -15,38 +14,20 @@ use Rattle.bor_desk.specs.Runs.{Asked, exchange}
 use Rattle.bor_desk.proofs.Unchanged.{reads}
 use Rattle.bor_http.specs.declared.incoming.fault.Refusal.{Refusal}
 use Rattle.bor_http.specs.declared.incoming.fault.Refusal.TheVariants.{HeadTooLarge, CutShort, BadHead, BadLength, BodyTooLarge, NoPath, WrongMethod, NoToken, BadQuery}
-use Rattle.bor_http.specs.Incoming.Message.{Message}
-use Rattle.bor_http.specs.Incoming.Steps.{◌>>=◌}
-use Rattle.bor_http.specs.Incoming.Refusals.{IsMessage}
-use Rattle.bor_wire.specs.Spelling.Spell.{Spelled, spell}
-use Rattle.bor_wire.proofs.OnSpelling.Messages.{message_spelled, one_spelling}
+use Rattle.bor_wire.specs.Spelling.Spell.{Spelled}
 use Rattle.bor_wire.specs.Rendering.Replies.{Said, refused, answered, bytes_of, status_of}
 use Rattle.bor_wire.specs.Rendering.Statuses.{desk_status, wire_refusal_status}
 use Rattle.bor_wire.specs.Sent.{Sent, Full, Unavailable, IfFull, TellsStatus}
-use Rattle.bor_wire.specs.Exchanges.{GoesOut, IfAsked, IfRefusing, IsFor, IsRefusal, IsRendered, IsSpelled, OnSpelled}
+use Rattle.bor_wire.specs.Exchanges.{GoesOut, IfAsked, IfRefusing, IsFor, IsRefusal, IsRendered}
 use Rattle.bor_wire.specs.Answering.{GoesOutFor}
 use Rattle.bor_wire.specs.Inputs.{after}
 use Rattle.bor_wire.specs.Refused.{IsFull}
 use Rattle.bor_wire.proofs.RefusalLaws.{line_first, refused_leaves}
 
--- what was read is spelled, where the input is known
-pub spelled_known : (known : Option (List ℕ)) (read : Result Message Refusal) → IfSome known (λ input. IsMessage input read) → IsSpelled known (read >>= spell)
-spelled_known None read h = tt
-spelled_known (Some input) read h = message_spelled input read h
-
--- nothing has to hold
-pub asks_nothing : (s : Spelled) → IfAsked s (Unit {0})
-asks_nothing (Ok asked) = tt
-asks_nothing (Err why) = tt
-
 -- what holds whatever is spelled
 pub asked_all : (P : Type 0) (s : Spelled) → P → IfAsked s P
 asked_all P (Ok asked) h = h
 asked_all P (Err why) h = tt
-
-pub asked_so : (P Q : Type 0) (s : Spelled) → (P → Q) → IfAsked s P → IfAsked s Q
-asked_so P Q (Ok asked) so h = so h
-asked_so P Q (Err why) so h = tt
 
 -- what holds whatever goes out
 pub if_refusing : (o : Sent) (P : Type 0) → P → IfRefusing o P
@@ -121,16 +102,6 @@ pub nobody_named : (o : Sent) → IsFor o None None
 nobody_named (Full status bytes) = refl
 nobody_named Unavailable = tt
 
--- what holds of something that the input spells holds of all that it spells
-pub on_this : (known : Option (List ℕ)) (s : Spelled) (P : Spelled → Type 0) → IsSpelled known s → P s → OnSpelled known P
-on_this None s P is h = tt
-on_this (Some input) s P is h = λ spelled spells. subst P (one_spelling input s spelled is spells) h
-
--- and so does what holds of anything
-pub on_any : (known : Option (List ℕ)) (P : Spelled → Type 0) → ((spelled : Spelled) → P spelled) → OnSpelled known P
-on_any None P h = tt
-on_any (Some input) P h = λ spelled spells. h spelled
-
 -- ---- the refusal that an input spells
 
 pub is_that : (o : Sent) (refusal why : Refusal) (stated : Spelled) → IsRefusal o refusal → stated ≡ Err refusal → stated ≡ Err why → IsRefusal o why
@@ -140,10 +111,6 @@ is_that o refusal why stated h is other = let same : refusal ≡ why = cc in sub
 pub refusal_goes : (o : Sent) (shown : Register → Type 0) (r : Register) (why : Refusal) → IsRefusal o why → shown r → GoesOut o shown r (Err why)
 refusal_goes (Full status bytes) shown r why h is = (refused why, refl, h.1, h.0, is)
 refusal_goes Unavailable shown r why h is = is
-
-pub on_spelled_so : (known : Option (List ℕ)) (P Q : Spelled → Type 0) → ((spelled : Spelled) → P spelled → Q spelled) → OnSpelled known P → OnSpelled known Q
-on_spelled_so None P Q so h = tt
-on_spelled_so (Some input) P Q so h = λ spelled spells. so spelled (h spelled spells)
 
 -- ---- what goes out where the keep was asked nothing
 

@@ -2,6 +2,7 @@
 use Rattle.std.proofs.Common.{◌≡◌, ◌++◌, ℕ, List, [], ◌∷◌, Bool, true, false, Option, Some, None, Ok, Err, refl, sym, ap, subst, ◌∙◌}
 use Rattle.std.specs.Prelude.{if◌then◌else◌}
 use Rattle.std.specs.List.{AllZip}
+use Rattle.std.proofs.lemmas.List.{map-append}
 use Rattle.std.proofs.lemmas.List.Elements.{filter-append}
 use Rattle.bor_terms.specs.Texts.{is_same}
 use Rattle.bor_terms.proofs.Texts.{same_is}
@@ -20,8 +21,8 @@ use Rattle.bor_wire.specs.Inputs.{after}
 use Rattle.bor_wire.specs.Runs.{AreReplies, register_left}
 use Rattle.bor_wire.specs.Histories.{history_in}
 use Rattle.bor_wire.specs.Headline.{AreAnswered, OwnExchange, own_exchanges, own_then, without_replies, replies_in}
-use Rattle.bor_wire.specs.Exchanges.{IsSpelled, IsWrittenBy}
-use Rattle.bor_wire.specs.Sequences.{AreSpelledBy, AreWritten, Exchanged, IsRun, answered, is_answered, keep_left}
+use Rattle.bor_wire.specs.Sent.{bytes_sent}
+use Rattle.bor_wire.specs.Sequences.{AreSpelledBy, Exchanged, IsRun, answered, bytes_in, is_answered, keep_left}
 use Rattle.bor_wire.specs.Restarts.{ExchangesCompose, FilingsFollowHistory, IsLife, LivesKeepDraftsInvisible, Part, RunsCompose, filings_alone, own_in_life}
 use Rattle.bor_wire.proofs.HeadlineLaws.{invisible}
 use Rattle.bor_wire.proofs.RunLaws.{after_legal}
@@ -82,18 +83,18 @@ zip-append R (x ∷ xs) (y ∷ ys) others more h rest = (h.0, zip-append R xs ys
 pub exchanges_compose : {K : Type 0} (shows : K → Register → Type 0) → ExchangesCompose shows
 exchanges_compose {K} shows r keep next es others legal run more =
     let spelled : List Spelled = run.spelled ++ more.spelled in
-    let sent : List (List ℕ) = run.sent ++ more.sent in
-    let told : answered (es ++ others) ≡ answered es ++ answered others = filter-append (λ (e : Exchanged K). is_answered e.outcome) es others in
-    let replies : AreReplies r spelled sent = replies-append r run.spelled more.spelled run.sent more.sent run.over.replies more.over.replies in
+    let told : answered (es ++ others) ≡ answered es ++ answered others = filter-append (λ (e : Exchanged K). is_answered e.reply) es others in
+    let bytes : bytes_in (answered es ++ answered others) ≡ bytes_in (answered es) ++ bytes_in (answered others) = map-append (λ (e : Exchanged K). bytes_sent e.reply) (answered es) (answered others) in
+    let replies : AreReplies r spelled (bytes_in (answered (es ++ others))) =
+    subst (AreReplies r spelled) (sym (ap bytes_in told ∙ bytes))
+    (replies-append r run.spelled more.spelled (bytes_in (answered es)) (bytes_in (answered others)) run.over.replies more.over.replies) in
     let left : register_left r spelled ≡ register_left (register_left r run.spelled) more.spelled = left-append r run.spelled more.spelled in
     let both : IsRun (shows (keep_left next others)) r (es ++ others) = record {
       spelled = spelled;
-      spells = subst (λ (xs : List (Exchanged K)). AreSpelledBy xs spelled) (sym told) (zip-append (λ (e : Exchanged K) s. IsSpelled e.known s) (answered es) run.spelled (answered others) more.spelled run.spells more.spells);
-      sent = sent;
-      written = subst (λ (xs : List (Exchanged K)). AreWritten xs sent) (sym told) (zip-append (λ (e : Exchanged K) bytes. IsWrittenBy e.outcome e.held e.holds bytes) (answered es) run.sent (answered others) more.sent run.written more.written);
-      over = run_over (shows (keep_left next others)) r spelled sent legal replies (subst (shows (keep_left next others)) (sym left) more.over.left);
+      spells = subst (λ (xs : List (Exchanged K)). AreSpelledBy xs spelled) (sym told) (zip-append (λ (e : Exchanged K) s. Spells e.input s) (answered es) run.spelled (answered others) more.spelled run.spells more.spells);
+      over = run_over (shows (keep_left next others)) r spelled (bytes_in (answered (es ++ others))) legal replies (subst (shows (keep_left next others)) (sym left) more.over.left);
     } in
-    (both, refl, refl)
+    (both, refl, ap bytes_in told ∙ bytes)
 
 -- ---- an agent's filings
 

@@ -1,19 +1,17 @@
 -- Exchanges one after the other are a run.
 use Rattle.bor_register.specs.declared.fault.StoreFault.{StoreFault}
 use Rattle.bor_records.specs.Promises.{Meaning}
-use Rattle.std.proofs.Common.{◌≡◌, ◌⊎◌, inl, inr, ℕ, List, [], ◌∷◌, Option, Some, Bool, true, false, not, refl, sym, ap, subst, ◌∙◌, ◌==◌}
+use Rattle.std.proofs.Common.{◌≡◌, ◌⊎◌, inl, inr, ℕ, List, [], ◌∷◌, Bool, true, false, refl, sym, subst}
 use Rattle.std.specs.Prelude.{if◌then◌else◌}
-use Rattle.std.proofs.lemmas.Bool.{eqb-true, eqb-false}
 use Rattle.bor_register.specs.Register.{Register}
 use Rattle.bor_desk.specs.Operations.Legality.{IsLegal}
-use Rattle.bor_wire.specs.Spelling.Spell.{Spelled}
-use Rattle.bor_wire.specs.declared.outcome.Outcome.{Outcome}
-use Rattle.bor_wire.specs.declared.outcome.Outcome.TheVariants.{Replied, ReadFailed, WriteFailed}
+use Rattle.bor_wire.specs.Spelling.Spell.{Spelled, Spells}
+use Rattle.bor_wire.specs.Sent.{Sent, Full, Unavailable, bytes_sent}
 use Rattle.bor_wire.specs.Inputs.{IsReplyTo, after}
 use Rattle.bor_wire.specs.Runs.{AreReplies, register_left}
 use Rattle.bor_wire.specs.Replays.{IsRunOver}
-use Rattle.bor_wire.specs.Exchanges.{IsReplied, IsExchanged, IsSpelled, IsWrittenBy, status_told}
-use Rattle.bor_wire.specs.Sequences.{Exchanged, AreExchanged, AreSpelledBy, AreWritten, ExchangesAreARun, answered, is_answered, keep_left}
+use Rattle.bor_wire.specs.Exchanges.{IsExchanged}
+use Rattle.bor_wire.specs.Sequences.{Exchanged, AreExchanged, AreSpelledBy, ExchangesAreARun, answered, bytes_in, is_answered, keep_left}
 use Rattle.bor_wire.proofs.HistoryLaws.{alone}
 use Rattle.bor_wire.proofs.ReportLaws.{reports}
 use Rattle.bor_wire.proofs.RefusalLaws.{refusals_leave}
@@ -21,25 +19,14 @@ use Rattle.bor_wire.proofs.RunLaws.{after_legal, left_legal}
 
 -- ---- one exchange
 
--- its reply was written, and the register after it is shown
-abbrev Replies : (Register → Type 0) → Register → Option (List ℕ) → (List ℕ → Type 0) → Type 0
-Replies shown r known written = (s : Spelled) × IsSpelled known s × (bytes : List ℕ) × IsReplyTo r s bytes × written bytes × shown (after r s)
+-- its reply, and the register after it is shown
+abbrev Replies : (Register → Type 0) → Register → List ℕ → List ℕ → Type 0
+Replies shown r input bytes = (s : Spelled) × Spells input s × IsReplyTo r s bytes × shown (after r s)
 
--- one of the two
-abbrev Either : Outcome → (Register → Type 0) → Register → Option (List ℕ) → (List ℕ → Type 0) → Type 0
-Either o shown r known written = ((is_answered o ≡ true) × Replies shown r known written) ⊎ ((is_answered o ≡ false) × shown r)
-
-by_status : (b : Bool) (o : Outcome) (status : ℕ) (shown : Register → Type 0) (r : Register) (known held holds : Option (List ℕ)) → (status == 503) ≡ b → status_told o ≡ Some status
-    → IsExchanged o shown r known held holds → ((not (status == 503) ≡ true) × Replies shown r known (IsWrittenBy o held holds)) ⊎ ((not (status == 503) ≡ false) × shown r)
-by_status true o status shown r known held holds is told h = inr (ap not is, (h.unavailable (told ∙ ap Some (eqb-true status 503 is))).0)
-by_status false o status shown r known held holds is told h =
-    let a : IsReplied o shown r known held holds status = h.replied status told (eqb-false status 503 is) in
-    inl (ap not is, (a.spelled, a.spells, a.bytes, (a.said, a.tells, a.bytes_are), a.written, a.left))
-
-by_outcome : (o : Outcome) (shown : Register → Type 0) (r : Register) (known held holds : Option (List ℕ)) → IsExchanged o shown r known held holds → Either o shown r known (IsWrittenBy o held holds)
-by_outcome (Replied status) shown r known held holds h = by_status (status == 503) (Replied status) status shown r known held holds refl refl h
-by_outcome ReadFailed shown r known held holds h = inr (refl, (h.unread refl).0)
-by_outcome (WriteFailed status) shown r known held holds h = by_status (status == 503) (WriteFailed status) status shown r known held holds refl refl h
+by_reply : (reply : Sent) (shown : Register → Type 0) (r : Register) (input : List ℕ) → IsExchanged shown r input reply
+    → ((is_answered reply ≡ true) × Replies shown r input (bytes_sent reply)) ⊎ ((is_answered reply ≡ false) × shown r)
+by_reply (Full status bytes) shown r input h = inl (refl, (h.spelled, h.spells, (h.said, h.tells, h.bytes_are), h.left))
+by_reply Unavailable shown r input h = inr (refl, h)
 
 -- ---- the sequence
 
@@ -47,9 +34,7 @@ by_outcome (WriteFailed status) shown r known held holds h = by_status (status =
 record IsServed {K : Type 0} (shown : Register → Type 0) (r : Register) (exchanges : List (Exchanged K)) : Type 0 where
   spelled : List Spelled
   spells : AreSpelledBy (answered exchanges) spelled
-  sent : List (List ℕ)
-  written : AreWritten (answered exchanges) sent
-  replies : AreReplies r spelled sent
+  replies : AreReplies r spelled (bytes_in (answered exchanges))
   left : shown (register_left r spelled)
 
 pub kept : {K : Type 0} (b : Bool) (e : Exchanged K) (rest : List (Exchanged K)) → b ≡ true → (if b then e ∷ rest else rest) ≡ e ∷ rest
@@ -60,28 +45,24 @@ pub dropped : {K : Type 0} (b : Bool) (e : Exchanged K) (rest : List (Exchanged 
 dropped true e rest is = absurd cc
 dropped false e rest is = refl
 
-more : {K : Type 0} (shown : Register → Type 0) (r : Register) (e : Exchanged K) (rest : List (Exchanged K)) (s : Spelled) (bytes : List ℕ) → is_answered e.outcome ≡ true → IsSpelled e.known s
-    → IsReplyTo r s bytes → IsWrittenBy e.outcome e.held e.holds bytes → IsServed shown (after r s) rest → IsServed shown r (e ∷ rest)
-more shown r e rest s bytes is spells reply written h =
-    let first : answered (e ∷ rest) ≡ e ∷ answered rest = kept (is_answered e.outcome) e (answered rest) is in
+more : {K : Type 0} (shown : Register → Type 0) (r : Register) (e : Exchanged K) (rest : List (Exchanged K)) (s : Spelled) → is_answered e.reply ≡ true → Spells e.input s
+    → IsReplyTo r s (bytes_sent e.reply) → IsServed shown (after r s) rest → IsServed shown r (e ∷ rest)
+more shown r e rest s is spells reply h =
+    let first : answered (e ∷ rest) ≡ e ∷ answered rest = kept (is_answered e.reply) e (answered rest) is in
     record {
       spelled = s ∷ h.spelled;
       spells = subst (λ es. AreSpelledBy es (s ∷ h.spelled)) (sym first) (spells, h.spells);
-      sent = bytes ∷ h.sent;
-      written = subst (λ es. AreWritten es (bytes ∷ h.sent)) (sym first) (written, h.written);
-      replies = (reply, h.replies);
+      replies = subst (λ es. AreReplies r (s ∷ h.spelled) (bytes_in es)) (sym first) (reply, h.replies);
       left = h.left;
     }
 
-no_more : {K : Type 0} (shown : Register → Type 0) (r : Register) (e : Exchanged K) (rest : List (Exchanged K)) → is_answered e.outcome ≡ false → IsServed shown r rest → IsServed shown r (e ∷ rest)
+no_more : {K : Type 0} (shown : Register → Type 0) (r : Register) (e : Exchanged K) (rest : List (Exchanged K)) → is_answered e.reply ≡ false → IsServed shown r rest → IsServed shown r (e ∷ rest)
 no_more shown r e rest is h =
-    let none : answered (e ∷ rest) ≡ answered rest = dropped (is_answered e.outcome) e (answered rest) is in
+    let none : answered (e ∷ rest) ≡ answered rest = dropped (is_answered e.reply) e (answered rest) is in
     record {
       spelled = h.spelled;
       spells = subst (λ es. AreSpelledBy es h.spelled) (sym none) h.spells;
-      sent = h.sent;
-      written = subst (λ es. AreWritten es h.sent) (sym none) h.written;
-      replies = h.replies;
+      replies = subst (λ es. AreReplies r h.spelled (bytes_in es)) (sym none) h.replies;
       left = h.left;
     }
 
@@ -92,10 +73,10 @@ began meaning keep (e ∷ rest) h clean = h.0.leaves.began (began meaning e.keep
 
 served : {K W : Type 0} (meaning : Meaning K Register W StoreFault) (keep : K) (es : List (Exchanged K)) → AreExchanged meaning keep es
     → (r : Register) → meaning.shows keep r → meaning.is_clean (keep_left keep es) → IsLegal r → IsServed (meaning.shows (keep_left keep es)) r es
-served meaning keep [] h r is clean legal = record { spelled = []; spells = tt; sent = []; written = tt; replies = tt; left = is }
+served meaning keep [] h r is clean legal = record { spelled = []; spells = tt; replies = tt; left = is }
 served meaning keep (e ∷ rest) h r is clean legal =
-    elim (by_outcome e.outcome (meaning.shows e.keep) r e.known e.held e.holds (h.0.exchanged r is (began meaning e.keep rest h.1 clean) legal)) [
-      | inl y ↦ more (meaning.shows (keep_left e.keep rest)) r e rest y.1.0 y.1.2 y.0 y.1.1 y.1.3 y.1.4 (served meaning e.keep rest h.1 (after r y.1.0) y.1.5 clean (after_legal r y.1.0 legal))
+    elim (by_reply e.reply (meaning.shows e.keep) r e.input (h.0.exchanged r is (began meaning e.keep rest h.1 clean) legal)) [
+      | inl y ↦ more (meaning.shows (keep_left e.keep rest)) r e rest y.1.0 y.0 y.1.1 y.1.2 (served meaning e.keep rest h.1 (after r y.1.0) y.1.3 clean (after_legal r y.1.0 legal))
       | inr n ↦ no_more (meaning.shows (keep_left e.keep rest)) r e rest n.0 (served meaning e.keep rest h.1 r n.1 clean legal)
     ]
 
@@ -117,7 +98,5 @@ a_run meaning keep es h = λ r is clean legal.
     record {
       spelled = run.spelled;
       spells = run.spells;
-      sent = run.sent;
-      written = run.written;
-      over = run_over (meaning.shows (keep_left keep es)) r run.spelled run.sent legal run.replies run.left;
+      over = run_over (meaning.shows (keep_left keep es)) r run.spelled (bytes_in (answered es)) legal run.replies run.left;
     }

@@ -15,7 +15,7 @@ record IsStoppedAt {K W : Type 0} (meaning : Meaning K Register W StoreFault) (k
   later : List (Exchanged K)
   split : es ≡ more ++ e ∷ later
   clean : meaning.is_clean (keep_left keep more)
-  made : (r : Register) → meaning.shows (keep_left keep more) r → ShowsAfter meaning.left_shows e.known r found
+  made : (r : Register) → meaning.shows (keep_left keep more) r → ShowsAfter meaning.left_shows e.input r found
 
 left_append : {K : Type 0} (keep : K) (front rest : List (Exchanged K)) → keep_left keep (front ++ rest) ≡ keep_left (keep_left keep front) rest
 left_append keep [] rest = refl
@@ -51,8 +51,6 @@ run_so : {K : Type 0} (Is IsSo : Register → Type 0) (r : Register) (es : List 
 run_so Is IsSo r es so run = record {
   spelled = run.spelled;
   spells = run.spells;
-  sent = run.sent;
-  written = run.written;
   over = record {
     replies = run.over.replies;
     left = so _ run.over.left;

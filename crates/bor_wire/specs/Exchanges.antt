@@ -1,7 +1,7 @@
--- The effects of one exchange over a reader and a writer.
-use Rattle.std.specs.Prelude.{◌≡◌, ◌≢◌, ◌≤◌, ℕ, List, [], ◌∷◌, take, Option, Some, None, Ok, Err}
+-- The effects of one input, and what an exchange over a reader and a writer tells.
+use Rattle.std.specs.Prelude.{◌≡◌, ◌≤◌, ℕ, List, [], ◌∷◌, take, Option, Some, None, Ok, Err}
 use Rattle.std.specs.Prelude.{IfSome, true, ⊤}
-use Rattle.std.specs.Io.KnownBytes.{Appends, Keeps}
+use Rattle.std.specs.Io.KnownBytes.{Appends}
 use Rattle.bor_register.specs.Register.{Register, caller_of}
 use Rattle.bor_desk.specs.Operations.Legality.{IsLegal}
 use Rattle.bor_desk.specs.declared.reply.DeskReply.{DeskReply}
@@ -12,20 +12,13 @@ use Rattle.bor_http.specs.Incoming.Counted.{after_fault}
 use Rattle.bor_http.specs.declared.incoming.fault.Refusal.{Refusal}
 use Rattle.bor_wire.specs.Spelling.Spell.{Spelled, Spells}
 use Rattle.bor_wire.specs.Rendering.Replies.{Said, refused, answered, status_of, bytes_of}
-use Rattle.bor_wire.specs.declared.rendering.reply.TheConstants.{UNAVAILABLE}
 use Rattle.bor_wire.specs.declared.outcome.Outcome.{Outcome}
 use Rattle.bor_wire.specs.declared.outcome.Outcome.TheVariants.{Replied, ReadFailed, WriteFailed}
 use Rattle.bor_wire.specs.declared.response.Response.{Response}
 use Rattle.bor_wire.specs.Inputs.{IsSaid, after}
 use Rattle.bor_wire.specs.Reports.{IsExact}
 use Rattle.bor_wire.specs.Histories.{IsAlone}
-use Rattle.bor_wire.specs.Sent.{Sent, Full, Unavailable}
-
--- ---- the spelling of an input
-
--- the input spells this, where it is known
-abbrev pub IsSpelled : Option (List ℕ) → Spelled → Type 0
-IsSpelled known spelled = IfSome known (λ input. Spells input spelled)
+use Rattle.bor_wire.specs.Sent.{Sent, Full, Unavailable, bytes_sent, status_sent}
 
 -- ---- the reply that goes out; for clauses of private functions alone
 
@@ -68,38 +61,19 @@ abbrev pub IfRefusing : Sent → Type 0 → Type 0
 IfRefusing (Full status bytes) P = 400 ≤ status → P
 IfRefusing Unavailable P = P
 
--- a reader's fault is counted where there is nothing to go out
-abbrev pub faults_unread : Option Response → ℕ → ℕ
-faults_unread None n = after_fault n
-faults_unread (Some reply) n = n
+-- ---- one input
 
--- ---- the exchange
-
--- the status of the reply; none where the reader failed
-abbrev pub status_told : Outcome → Option ℕ
-status_told (Replied status) = Some status
-status_told ReadFailed = None
-status_told (WriteFailed status) = Some status
-
--- these bytes were written, or a front of them where the writer failed
-abbrev pub IsWrittenBy : Outcome → Option (List ℕ) → Option (List ℕ) → List ℕ → Type 0
-IsWrittenBy (Replied status) old new bytes = Appends old new bytes
-IsWrittenBy ReadFailed old new bytes = ⊥
-IsWrittenBy (WriteFailed status) old new bytes = (n : ℕ) × Appends old new (take n bytes)
-
--- The input was replied to with this status.
-pub record IsReplied (outcome : Outcome) (shown : Register → Type 0) (r : Register)
-    (known old new : Option (List ℕ)) (status : ℕ) : Type 0 where
-  -- it spells this, where its bytes are known
+-- The input was replied to with this status, in these bytes.
+pub record IsReplied (shown : Register → Type 0) (r : Register) (input : List ℕ) (status : ℕ)
+    (bytes : List ℕ) : Type 0 where
+  -- it spells this
   pub spelled : Spelled
-  pub spells : IsSpelled known spelled
+  pub spells : Spells input spelled
   -- this is said to it, with this status and in these bytes
   pub said : Said
   pub tells : IsSaid r spelled said
   pub status_is : status ≡ status_of said
-  pub bytes : List ℕ
   pub bytes_are : bytes ≡ bytes_of said
-  pub written : IsWrittenBy outcome old new bytes
   -- the register after it is shown
   pub left : shown (after r spelled)
   -- a report on chains with status 200 names exactly the persons joined to the entity
@@ -107,20 +81,11 @@ pub record IsReplied (outcome : Outcome) (shown : Register → Type 0) (r : Regi
   -- from a legal register each agent receives what it would receive alone
   pub alone : IsLegal r → (name : List ℕ) → IsAlone name r (spelled ∷ []) (bytes ∷ [])
 
--- The effects of an exchange that ended so, from the register r: `shown` says of a register that it
--- is shown after it. Its reader had the bytes `known`, and its writer held those of `old` before it
--- and those of `new` after it. Where the bytes of a reader or a writer aren't known, nothing is
--- said of them.
-pub record IsExchanged (outcome : Outcome) (shown : Register → Type 0) (r : Register)
-    (known old new : Option (List ℕ)) : Type 0 where
-  -- where the reader failed, nothing changed and nothing was written
-  pub unread : status_told outcome ≡ None → shown r × Keeps old new
-  -- with status 503 nothing changed, and what was written is `UNAVAILABLE`
-  pub unavailable : status_told outcome ≡ Some 503
-      → shown r × IsWrittenBy outcome old new UNAVAILABLE.now
-  -- with another status the input was replied to
-  pub replied : (status : ℕ) → status_told outcome ≡ Some status → status ≢ 503
-      → IsReplied outcome shown r known old new status
+-- The effects of an input that had this reply, from the register r: `shown` says of a register that
+-- it is shown after it. With status 503 nothing changed.
+abbrev pub IsExchanged : (Register → Type 0) → Register → List ℕ → Sent → Type 0
+IsExchanged shown r input (Full status bytes) = IsReplied shown r input status bytes
+IsExchanged shown r input Unavailable = shown r
 
 -- ---- where a request is answered
 
@@ -129,20 +94,12 @@ abbrev pub IfAsked : Spelled → Type 0 → Type 0
 IfAsked (Ok asked) P = P
 IfAsked (Err why) P = Unit {0}
 
--- P, where the reply has another status than 503
-abbrev pub UnlessUnavailable : Outcome → Type 0 → Type 0
-UnlessUnavailable (Replied status) P = status ≢ 503 → P
-UnlessUnavailable ReadFailed P = Unit {0}
-UnlessUnavailable (WriteFailed status) P = status ≢ 503 → P
-
 -- ---- the state that a stop leaves
 
--- the state that is left shows the register after the input; where its bytes aren't known, after
--- some input
-abbrev pub ShowsAfter : {W : Type 0} → (W → Register → Type 0) → Option (List ℕ)
-    → Register → W → Type 0
-ShowsAfter left_shows known r left =
-    (spelled : Spelled) × IsSpelled known spelled × left_shows left (after r spelled)
+-- the state that is left shows the register after the input
+abbrev pub ShowsAfter : {W : Type 0} → (W → Register → Type 0) → List ℕ → Register → W → Type 0
+ShowsAfter left_shows input r left =
+    (spelled : Spelled) × Spells input spelled × left_shows left (after r spelled)
 
 -- ---- whom it is for
 
@@ -170,38 +127,7 @@ abbrev pub IsToldFor : Option DeskReply → Option (List ℕ) → Option (List �
 IsToldFor (Some reply) named asks = named ≡ asks
 IsToldFor None named asks = IfSome named (λ name. asks ≡ Some name)
 
--- whatever the input spells, P holds of it
-abbrev pub OnSpelled : Option (List ℕ) → (Spelled → Type 0) → Type 0
-OnSpelled known P = IfSome known (λ input. (spelled : Spelled) → Spells input spelled → P spelled)
-
--- ---- facts of any register and of any keep
-
--- where the status is 503, what was written is `UNAVAILABLE` or a front of it; where the reader
--- failed, nothing was
-abbrev pub TellsUnavailable : Outcome → Option (List ℕ) → Option (List ℕ) → Type 0
-TellsUnavailable (Replied status) old new = status ≡ 503 → Appends old new UNAVAILABLE.now
-TellsUnavailable ReadFailed old new = Keeps old new
-TellsUnavailable (WriteFailed status) old new =
-    status ≡ 503 → (n : ℕ) × Appends old new (take n UNAVAILABLE.now)
-
--- with a status of 400 or more, 503 too, and where the reader failed, P holds
-abbrev pub IfRefused : Outcome → Type 0 → Type 0
-IfRefused (Replied status) P = 400 ≤ status → P
-IfRefused ReadFailed P = P
-IfRefused (WriteFailed status) P = 400 ≤ status → P
-
--- an input that spells a refusal is answered by it, where the status isn't 503
-abbrev pub TellsRefusal : Outcome → Refusal → Option (List ℕ) → Option (List ℕ) → Type 0
-TellsRefusal (Replied status) why old new =
-    status ≢ 503 → (status ≡ status_of (refused why)) × Appends old new (bytes_of (refused why))
-TellsRefusal ReadFailed why old new = Keeps old new
-TellsRefusal (WriteFailed status) why old new =
-    status ≢ 503 → (status ≡ status_of (refused why))
-    × ((n : ℕ) × Appends old new (take n (bytes_of (refused why))))
-
--- whatever refusal the input spells, P holds of it
-abbrev pub OnRefusal : Option (List ℕ) → (Refusal → Type 0) → Type 0
-OnRefusal known P = IfSome known (λ input. (why : Refusal) → Spells input (Err why) → P why)
+-- ---- a reader and a writer
 
 -- the faults that the reader and the writer counted are those that the outcome says
 abbrev pub read_faults : Outcome → ℕ → ℕ
@@ -212,9 +138,15 @@ abbrev pub write_faults : Outcome → ℕ → ℕ
 write_faults (WriteFailed status) n = after_fault n
 write_faults outcome n = n
 
--- these bytes were written, or a front of them
-abbrev pub IsWritten : Outcome → ℕ → List ℕ → Option (List ℕ) → Option (List ℕ) → Type 0
-IsWritten (Replied told) status bytes old new = (told ≡ status) × Appends old new bytes
-IsWritten ReadFailed status bytes old new = ⊥
-IsWritten (WriteFailed told) status bytes old new =
-    (told ≡ status) × (n : ℕ) × Appends old new (take n bytes)
+-- a reader's fault is counted where there is no reply (for clauses of private functions alone)
+abbrev pub faults_unread : Option Sent → ℕ → ℕ
+faults_unread None n = after_fault n
+faults_unread (Some reply) n = n
+
+-- this reply was written, or a front of it where the writer failed
+abbrev pub IsWritten : Outcome → Sent → Option (List ℕ) → Option (List ℕ) → Type 0
+IsWritten (Replied status) reply old new =
+    (status ≡ status_sent reply) × Appends old new (bytes_sent reply)
+IsWritten ReadFailed reply old new = ⊥
+IsWritten (WriteFailed status) reply old new =
+    (status ≡ status_sent reply) × ((n : ℕ) × Appends old new (take n (bytes_sent reply)))

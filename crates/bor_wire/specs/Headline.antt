@@ -11,7 +11,7 @@ use Rattle.bor_wire.specs.Spelling.Spell.{Spelled}
 use Rattle.bor_wire.specs.Inputs.{after}
 use Rattle.bor_wire.specs.Runs.{AreReplies, AreSpelled}
 use Rattle.bor_wire.specs.Reports.{AreReports}
-use Rattle.bor_wire.specs.Sequences.{Exchanged, IsRun, keep_left}
+use Rattle.bor_wire.specs.Sequences.{Exchanged, IsRun, answered, bytes_in, keep_left}
 
 -- Requests, each as bytes, are answered one after the other: this is what they spell, and these are
 -- the bytes of the replies.
@@ -99,6 +99,6 @@ ExchangesKeepDraftsInvisible {K} shows =
     let r = empty_register registrar day in let q = empty_register another date in
     (run : IsRun (shows (keep_left keep exchanges)) r exchanges)
     (too : IsRun (shows (keep_left next others)) q others) →
-    let one = own_exchanges name r run.spelled run.sent in
-    let other = own_exchanges name q too.spelled too.sent in
+    let one = own_exchanges name r run.spelled (bytes_in (answered exchanges)) in
+    let other = own_exchanges name q too.spelled (bytes_in (answered others)) in
     without_replies one ≡ without_replies other → replies_in one ≡ replies_in other

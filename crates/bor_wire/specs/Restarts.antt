@@ -11,7 +11,7 @@ use Rattle.bor_wire.specs.Runs.{AreReplies, register_left}
 use Rattle.bor_wire.specs.Histories.{history_in}
 use Rattle.bor_wire.specs.Headline.{AreAnswered, OwnExchange, own_exchanges, without_replies}
 use Rattle.bor_wire.specs.Headline.{replies_in}
-use Rattle.bor_wire.specs.Sequences.{Exchanged, IsRun, keep_left}
+use Rattle.bor_wire.specs.Sequences.{Exchanged, IsRun, answered, bytes_in, keep_left}
 
 -- ---- two runs, of which the second begins with the register that the first left
 
@@ -42,7 +42,9 @@ ExchangesCompose {K} shows =
     (run : IsRun (shows (keep_left keep exchanges)) r exchanges)
     (more : IsRun (shows (keep_left next others)) (register_left r run.spelled) others) →
     (both : IsRun (shows (keep_left next others)) r (exchanges ++ others))
-    × (both.spelled ≡ run.spelled ++ more.spelled) × (both.sent ≡ run.sent ++ more.sent)
+    × (both.spelled ≡ run.spelled ++ more.spelled)
+    × (bytes_in (answered (exchanges ++ others))
+    ≡ bytes_in (answered exchanges) ++ bytes_in (answered others))
 
 -- ---- an agent's filings
 

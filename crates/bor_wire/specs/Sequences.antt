@@ -1,24 +1,20 @@
 -- Exchanges one after the other, as a run.
 use Rattle.bor_register.specs.declared.fault.StoreFault.{StoreFault}
-use Rattle.std.specs.Prelude.{ℕ, List, [], ◌∷◌, filter, Option, Bool, false, not, ◌==◌}
+use Rattle.std.specs.Prelude.{ℕ, List, [], ◌∷◌, filter, map, Bool, true, false}
 use Rattle.std.specs.List.{AllZip}
 use Rattle.bor_records.specs.Promises.{Leaves, Meaning, Promised}
 use Rattle.bor_register.specs.Register.{Register}
 use Rattle.bor_desk.specs.Operations.Legality.{IsLegal}
-use Rattle.bor_wire.specs.Spelling.Spell.{Spelled}
-use Rattle.bor_wire.specs.declared.outcome.Outcome.{Outcome}
-use Rattle.bor_wire.specs.declared.outcome.Outcome.TheVariants.{Replied, ReadFailed, WriteFailed}
+use Rattle.bor_wire.specs.Spelling.Spell.{Spelled, Spells}
+use Rattle.bor_wire.specs.Sent.{Sent, Full, Unavailable, bytes_sent}
 use Rattle.bor_wire.specs.Replays.{IsRunOver}
-use Rattle.bor_wire.specs.Exchanges.{IsExchanged, ShowsAfter, IsSpelled, IsWrittenBy}
+use Rattle.bor_wire.specs.Exchanges.{IsExchanged, ShowsAfter}
 
--- One exchange of a sequence: the bytes that its reader had, how it ended, what its writer held
--- before it and after it, and the keep that it left. The bytes of some readers and writers, as of a
--- socket, aren't known.
+-- One exchange of a sequence: an input, its reply, and the keep that it left. One whose reader
+-- failed is none: it left the keep.
 pub record Exchanged (K : Type 0) : Type 0 where
-  pub known : Option (List ℕ)
-  pub outcome : Outcome
-  pub held : Option (List ℕ)
-  pub holds : Option (List ℕ)
+  pub input : List ℕ
+  pub reply : Sent
   pub keep : K
 
 -- the keep that they leave
@@ -31,10 +27,10 @@ pub record IsNext {K W : Type 0} (meaning : Meaning K Register W StoreFault) (ke
     (e : Exchanged K) : Type 0 where
   -- where it ends clean it began clean, and a stop leaves what one before might have left, or the
   -- register after it
-  pub leaves : Leaves meaning keep e.keep (ShowsAfter meaning.left_shows e.known)
-  -- where it ends clean, and a legal register was shown, it is as the contract of an exchange says
+  pub leaves : Leaves meaning keep e.keep (ShowsAfter meaning.left_shows e.input)
+  -- where it ends clean, and a legal register was shown, it is as the contract of `respond` says
   pub exchanged : Promised meaning keep e.keep
-      (λ r. IsLegal r → IsExchanged e.outcome (meaning.shows e.keep) r e.known e.held e.holds)
+      (λ r. IsLegal r → IsExchanged (meaning.shows e.keep) r e.input e.reply)
 
 -- each of them
 abbrev pub AreExchanged : {K W : Type 0} → Meaning K Register W StoreFault → K
@@ -42,32 +38,28 @@ abbrev pub AreExchanged : {K W : Type 0} → Meaning K Register W StoreFault →
 AreExchanged meaning keep [] = Unit {0}
 AreExchanged meaning keep (e ∷ rest) = IsNext meaning keep e × AreExchanged meaning e.keep rest
 
--- whether the request was answered: the reader didn't fail, and the reply isn't 503
-abbrev pub is_answered : Outcome → Bool
-is_answered (Replied status) = not (status == 503)
-is_answered ReadFailed = false
-is_answered (WriteFailed status) = not (status == 503)
+-- whether the input was answered: its reply isn't the one with 503
+abbrev pub is_answered : Sent → Bool
+is_answered (Full status bytes) = true
+is_answered Unavailable = false
 
 abbrev pub answered : {K : Type 0} → List (Exchanged K) → List (Exchanged K)
-answered exchanges = filter (λ e. is_answered e.outcome) exchanges
+answered exchanges = filter (λ e. is_answered e.reply) exchanges
 
--- each input spells this, where it is known
+-- each input spells this
 abbrev pub AreSpelledBy : {K : Type 0} → List (Exchanged K) → List Spelled → Type 0
-AreSpelledBy exchanges spelled = AllZip (λ e s. IsSpelled e.known s) exchanges spelled
+AreSpelledBy exchanges spelled = AllZip (λ e s. Spells e.input s) exchanges spelled
 
--- each reply was written, or a front of it where the writer failed
-abbrev pub AreWritten : {K : Type 0} → List (Exchanged K) → List (List ℕ) → Type 0
-AreWritten exchanges replies =
-    AllZip (λ e bytes. IsWrittenBy e.outcome e.held e.holds bytes) exchanges replies
+-- the bytes of each reply
+abbrev pub bytes_in : {K : Type 0} → List (Exchanged K) → List (List ℕ)
+bytes_in exchanges = map (λ e. bytes_sent e.reply) exchanges
 
 -- The exchanges that were answered are a run: over what their inputs spell, with what was sent.
 pub record IsRun {K : Type 0} (Shown : Register → Type 0) (r : Register)
     (exchanges : List (Exchanged K)) : Type 0 where
   pub spelled : List Spelled
   pub spells : AreSpelledBy (answered exchanges) spelled
-  pub sent : List (List ℕ)
-  pub written : AreWritten (answered exchanges) sent
-  pub over : IsRunOver Shown r spelled sent
+  pub over : IsRunOver Shown r spelled (bytes_in (answered exchanges))
 
 -- Exchanges one after the other, from a keep of a legal register, are a run over what their inputs
 -- spell.

@@ -13,11 +13,11 @@ abbrev pub ShowsOrNext : {K W : Type 0} → (W → Register → Type 0) → W �
     → Register → Type 0
 ShowsOrNext left_shows found [] r = left_shows found r
 ShowsOrNext left_shows found (e ∷ later) r =
-    left_shows found r ⊎ ShowsAfter left_shows e.known r found
+    left_shows found r ⊎ ShowsAfter left_shows e.input r found
 
 -- From the register r on, all that was done and a front of the rest are a run, at whose end the
--- keep was clean; those that ended with status 503 or a failed read have no part in it. What is
--- found shows the register after it, or after the next exchange too.
+-- keep was clean; those with status 503 have no part in it. What is found shows the register after
+-- it, or after the next exchange too.
 pub record LeavesARun {K W : Type 0} (meaning : Meaning K Register W StoreFault) (found : W)
     (keep : K) (r : Register) (done rest : List (Exchanged K)) : Type 0 where
   pub more : List (Exchanged K)

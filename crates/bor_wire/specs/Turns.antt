@@ -1,53 +1,36 @@
 -- The replies to a list of inputs, as exchanges in turn: with the keep after each.
 use Rattle.bor_register.specs.declared.fault.StoreFault.{StoreFault}
-use Rattle.std.specs.Prelude.{◌≡◌, ℕ, List, [], ◌∷◌, ◌++◌, Some, Ok, IsTrue}
+use Rattle.std.specs.Prelude.{◌≡◌, ℕ, List, [], ◌∷◌, ◌++◌, map, All, Ok, IsTrue}
 use Rattle.bor_records.specs.Promises.{Meaning, Promised}
 use Rattle.bor_register.specs.Register.{Register}
 use Rattle.bor_desk.specs.Operations.Legality.{IsLegal}
-use Rattle.bor_wire.specs.declared.outcome.Outcome.TheVariants.{Replied}
-use Rattle.bor_wire.specs.Sent.{Sent, IfFull, TellsStatus, bytes_sent, status_sent}
+use Rattle.bor_wire.specs.Sent.{Sent, IfFull, TellsStatus}
 use Rattle.bor_desk.specs.Runs.{Asked}
-use Rattle.bor_wire.specs.Exchanges.{UnlessUnavailable, IfAsked, OnSpelled}
 use Rattle.bor_wire.specs.Spelling.Spell.{Spelled, Spells}
 use Rattle.bor_wire.specs.Sequences.{AreExchanged, Exchanged, IsRun, is_answered, keep_left}
 
--- The exchange was over this input, which lay in memory, and the reply is what was written.
-pub record IsTurn {K : Type 0} (input : List ℕ) (reply : Sent) (e : Exchanged K) : Type 0 where
-  pub told : TellsStatus reply
-  pub outcome : e.outcome ≡ Replied (status_sent reply)
-  pub known : e.known ≡ Some input
-  pub held : e.held ≡ Some []
-  pub holds : e.holds ≡ Some (bytes_sent reply)
-  pub spells : IfFull reply ((spelled : Spelled) × Spells input spelled)
-
--- each exchange was over its input, and has its reply
-abbrev pub AreTurns : {K : Type 0} → List (List ℕ) → List Sent → List (Exchanged K) → Type 0
-AreTurns [] [] [] = Unit {0}
-AreTurns (input ∷ inputs) (reply ∷ replies) (e ∷ rest) =
-    IsTurn input reply e × AreTurns inputs replies rest
-AreTurns inputs replies exchanges = ⊥
+-- its reply begins with its status, and where it is whole the input spells something
+pub record IsTurn {K : Type 0} (e : Exchanged K) : Type 0 where
+  pub told : TellsStatus e.reply
+  pub spells : IfFull e.reply ((spelled : Spelled) × Spells e.input spelled)
 
 -- A request is answered with another status than 503 only where the keep is clean after it, if its
 -- store has returned what was written by then.
 abbrev pub AnswersClean : {K W : Type 0} → Meaning K Register W StoreFault → Exchanged K → Type 0
 AnswersClean meaning e =
-    OnSpelled e.known (λ spelled. IfAsked spelled
-    (UnlessUnavailable e.outcome (meaning.is_sound e.keep → meaning.is_clean e.keep)))
-
--- each of them does
-abbrev pub AllAnswerClean : {K W : Type 0} → Meaning K Register W StoreFault → List (Exchanged K)
-    → Type 0
-AllAnswerClean meaning [] = Unit {0}
-AllAnswerClean meaning (e ∷ rest) = AnswersClean meaning e × AllAnswerClean meaning rest
+    (asked : Asked) → Spells e.input (Ok asked)
+    → IfFull e.reply (meaning.is_sound e.keep → meaning.is_clean e.keep)
 
 -- The replies to the inputs are those of exchanges one after the other, the first from the old
 -- keep, each from the keep that the one before it left, and the last leaves the new one.
 pub record InTurn {K W : Type 0} (meaning : Meaning K Register W StoreFault) (old new : K)
     (inputs : List (List ℕ)) (replies : List Sent) : Type 0 where
   pub exchanges : List (Exchanged K)
-  pub turns : AreTurns inputs replies exchanges
+  pub inputs_are : map (λ e. e.input) exchanges ≡ inputs
+  pub replies_are : map (λ e. e.reply) exchanges ≡ replies
+  pub turns : All IsTurn exchanges
   pub each : AreExchanged meaning old exchanges
-  pub answer_clean : AllAnswerClean meaning exchanges
+  pub answer_clean : All (AnswersClean meaning) exchanges
   pub left : keep_left old exchanges ≡ new
 
 -- Each front of exchanges in turn is a run, where the keep after it is clean: whatever becomes of
@@ -61,11 +44,9 @@ FrontsAreRuns {K} {W} meaning =
 
 -- a request was answered, with another status than 503
 pub record IsRequestAnswered {K : Type 0} (e : Exchanged K) : Type 0 where
-  pub input : List ℕ
-  pub known : e.known ≡ Some input
   pub asked : Asked
-  pub spells : Spells input (Ok asked)
-  pub answered : IsTrue (is_answered e.outcome)
+  pub spells : Spells e.input (Ok asked)
+  pub answered : IsTrue (is_answered e.reply)
 
 -- From a legal register that was shown, exchanges in turn up to a request that was answered, of
 -- which `AnswersClean` holds, are a run, if the store had returned what was written by then:

@@ -90,9 +90,10 @@ pub fn nobodys_inputs()
 {}
 
 /// Exchanges one after the other, from a keep of a legal register, each as the contract of
-/// [`exchange`](crate::exchange) says, are a run over what their inputs spell: the replies that
-/// were sent are the run's, the register left is too, and each agent receives what it would alone.
-/// Those that ended with status 503 or with a failed read have no part in it.
+/// [`respond`](crate::respond) says, are a run over what their inputs spell: the replies are the
+/// run's, the register left is too, and each agent receives what it would alone. Those with status
+/// 503 have no part in it. By its contract [`exchange`](crate::exchange) is such a one, unless its
+/// reader failed, which leaves the keep.
 pub fn exchanges_are_a_run<K: Keep>()
     ensures { ExchangesAreARun K.meaning }
 {}
@@ -115,8 +116,7 @@ pub fn answers_are_runs<K: Keep>()
 /// The state that a stop leaves after exchanges one after the other, from a clean keep of a legal
 /// register, if its store has returned what was written: it shows the register after a front of
 /// them, or after that and the next one. The front is a run and has all up to any exchange after
-/// which the keep was clean; those that ended with status 503 or with a failed read have no part in
-/// it.
+/// which the keep was clean; those with status 503 have no part in it.
 pub fn stops_leave_runs<K: Keep>()
     ensures { StopsLeaveRuns K.meaning }
 {}

@@ -31,7 +31,9 @@ pub mod spelling;
 
 pub use crate::rendering::{UNAVAILABLE, render};
 pub use crate::spelling::{Asking, parse};
-pub use bor_http::incoming::{Counted, Name, Path, RawRequest, Refusal, WireFault, read_request};
+pub use bor_http::incoming::{
+    Counted, Name, Path, RawRequest, Refusal, WireFault, message_in, read_request,
+};
 pub use outcome::{Outcome, exchange};
 pub use replies::replay;
 pub use reply::Reply;

@@ -1,17 +1,16 @@
 //! One exchange over a reader and a writer, and how it ends.
 
-ghost use Rattle.std.specs.Prelude.{◌≡◌};
+ghost use Rattle.std.specs.Prelude.{◌≡◌, false};
 ghost use Rattle.bor_http.specs.Incoming.Message.{request_limit};
 ghost use Rattle.bor_http.specs.Incoming.Reading.{TakesAtMost};
-ghost use Rattle.bor_wire.specs.Answering.{AnswersOne};
-ghost use Rattle.bor_wire.specs.Exchanges.{IsWritten, read_faults, write_faults};
-ghost use Rattle.bor_wire.specs.Sent.{bytes_sent, status_sent};
+ghost use Rattle.bor_wire.specs.Answering.{AnswersOne, RespondsIfRead};
+ghost use Rattle.bor_wire.specs.Exchanges.{IsWritten, faults_unread, read_faults, write_faults};
 
 use crate::reply::Reply;
-use crate::response::read_reply;
+use crate::response::respond;
 use crate::spelling::Paths;
 use bor_desk::operations::Keep;
-use bor_http::incoming::{Counted, send};
+use bor_http::incoming::{Counted, WireFault, read_request, send};
 use std::alloc::Global;
 use std::io::{Read, Write};
 
@@ -30,8 +29,8 @@ pub enum Outcome {
 
 // Writes a reply.
 fn write_reply<W: Write>(writer: &mut Counted<W>, reply: &Reply) -> Outcome
-    ensures written { IsWritten result (status_sent reply.now) (bytes_sent reply.now)
-        (W.contents writer.old.inner) (W.contents writer.new.inner) }
+    ensures written { IsWritten result reply.now (W.contents writer.old.inner)
+        (W.contents writer.new.inner) }
     ensures faults { writer.new.faults ≡ write_faults result writer.old.faults }
 {
     let status = reply.status();
@@ -42,7 +41,29 @@ fn write_reply<W: Write>(writer: &mut Counted<W>, reply: &Reply) -> Outcome
     }
 }
 
-/// Reads one request, has the desk answer it, and writes the reply.
+// The reply to the request that a reader gives; none where the reader failed.
+fn read_reply<K: Keep, R: Read>(
+    alloc: Global,
+    paths: &Paths,
+    keep: &mut K,
+    reader: &mut Counted<R>,
+) -> Option<Reply>
+    ensures answers { RespondsIfRead K.meaning keep.old keep.new (R.remaining reader.old.inner)
+        result }
+    ensures taken { TakesAtMost request_limit (R.remaining reader.old.inner)
+        (R.remaining reader.new.inner) }
+    ensures faults { reader.new.faults ≡ faults_unread result reader.old.faults }
+    ensures asks { reader.old.is_over ≡ false → reader.new.late ≡ reader.old.late }
+{
+    match read_request(alloc, reader) {
+        Ok(input) => Some(respond(alloc, paths, keep, &input).reply),
+        Err(WireFault::Read) => None,
+        Err(_) => Some(Reply::unavailable()),
+    }
+}
+
+/// Reads one request, has the desk answer it as [`respond`](crate::respond) does, and writes the
+/// reply.
 ///
 /// With a status other than 503 the bytes that are written, of which a failing writer takes a
 /// front, are the reply to the one input, which each agent receives as it would alone, and the
@@ -61,10 +82,10 @@ fn write_reply<W: Write>(writer: &mut Counted<W>, reply: &Reply) -> Outcome
 ///
 /// Statements on bytes are of readers and writers that tell theirs, as those over memory do: of
 /// another reader it isn't said which request was answered, and of another writer not what was
-/// written. What is left, and the faults, are said of any. At most 1,064,960 bytes are read. A
-/// failed read, an interruption too, ends the exchange as [`Outcome::ReadFailed`], and a write that
-/// fails or takes nothing as [`Outcome::WriteFailed`]: each comes exactly where that end's count of
-/// faults moved.
+/// written. What is left, and the faults, are said of any. At most 1,064,960 bytes are read, and
+/// nothing more is asked of a reader once a read has given no byte. A failed read, an interruption
+/// too, ends the exchange as [`Outcome::ReadFailed`], and a write that fails or takes nothing as
+/// [`Outcome::WriteFailed`]: each comes exactly where that end's count of faults moved.
 pub fn exchange<K: Keep, R: Read, W: Write>(
     alloc: Global,
     keep: &mut K,
@@ -77,12 +98,13 @@ pub fn exchange<K: Keep, R: Read, W: Write>(
         (R.remaining reader.new.inner) }
     ensures read_faults { reader.new.faults ≡ read_faults result reader.old.faults }
     ensures write_faults { writer.new.faults ≡ write_faults result writer.old.faults }
+    ensures asks { reader.old.is_over ≡ false → reader.new.late ≡ reader.old.late }
 {
     let Ok(paths) = Paths::new(alloc) else {
         return write_reply(writer, &Reply::unavailable());
     };
     match read_reply(alloc, &paths, keep, reader) {
-        Some(response) => write_reply(writer, &response.reply),
+        Some(reply) => write_reply(writer, &reply),
         None => Outcome::ReadFailed,
     }
 }

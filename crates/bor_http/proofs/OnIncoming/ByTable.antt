@@ -1,20 +1,17 @@
 -- The reading of an input, one part looked at after the other, is that of the table.
 use Rattle.std.proofs.Common.{◌≡◌, ◌≤◌, ℕ, List, [], ◌∷◌, ◌++◌, length, take, drop, Option, Some, None, Ok, Err, Bool, true, false, not, ◌&&◌, refl, sym, ap, subst, ◌∙◌, arith}
 use Rattle.std.specs.Prelude.{Result, nat_lt, if◌then◌else◌}
-use Rattle.std.specs.Option.{IfSome, option_map_or, is_none}
+use Rattle.std.specs.Option.{option_map_or, is_none}
 use Rattle.std.proofs.lemmas.Bool.Decides.{nat_tests}
 use Rattle.httparse.specs.Grammar.{ReadsRequest}
 use Rattle.httparse.proofs.GrammarLemmas.{request_unique}
 use Rattle.bor_terms.specs.Tables.{table, outcome}
 use Rattle.bor_http.specs.declared.incoming.fault.Refusal.{Refusal}
 use Rattle.bor_http.specs.declared.incoming.fault.Refusal.TheVariants.{HeadTooLarge, CutShort, BadHead}
-use Rattle.bor_http.specs.declared.incoming.fault.WireFault.{WireFault}
-use Rattle.bor_http.specs.declared.incoming.fault.WireFault.TheVariants.{Refused, Read, Memory}
 use Rattle.bor_http.specs.Incoming.Head.{head_end, head_limit, line_limit, line_feeds}
 use Rattle.bor_http.specs.Incoming.Message.{Parts, Message, IsTakenApart, parts_of}
 use Rattle.bor_http.specs.Incoming.Refusals.{refuse, lines_of_body, lines_of_input, message_in, message_of, message_read, IsMessage}
 use Rattle.bor_http.specs.Incoming.Steps.{and_then, with_few_lines, without_head, head_at, with_body, HasParts, IsAt, IsMessageBySteps}
-use Rattle.bor_http.specs.Incoming.Reading.{FaultFits, GivesFault}
 use Rattle.bor_http.proofs.OnIncoming.BodyLines.{body_is}
 
 -- the parts of a head, or that it is none
@@ -185,10 +182,3 @@ from_steps input read is =
 
 pub head_refused : (input : List ℕ) (why : Refusal) → head_at input ≡ Err why → IsMessage input (Err why)
 head_refused input why e = from_steps input (Err why) (subst (λ at. IsAt input at (Err why)) (sym e) refl)
-
-pub head_fault : (known : Option (List ℕ)) (fault : WireFault) → IfSome known (λ input. GivesFault fault (head_at input))
-    → IfSome known (λ input. FaultFits fault (IsMessage input))
-head_fault None fault h = tt
-head_fault (Some input) (Refused why) h = head_refused input why h
-head_fault (Some input) Read h = tt
-head_fault (Some input) Memory h = tt

@@ -1,5 +1,5 @@
 -- Fields by name, and the test of names.
-use Rattle.std.proofs.Common.{◌≡◌, ◌<◌, length, drop, map, ℕ, ◌+◌, List, [], ◌∷◌, refl, ap, ◌∙◌, arith, Bool, cond, get_or, drop-cons, add-one, ◌↔◌}
+use Rattle.std.proofs.Common.{◌≡◌, ◌<◌, length, drop, map, ℕ, ◌+◌, List, [], ◌∷◌, refl, ap, ◌∙◌, arith, Bool, cond, get_or, drop-cons, add-one}
 use Rattle.std.specs.Prelude.{count_by}
 use Rattle.std.proofs.lemmas.List.Sums.{sum_by-append}
 

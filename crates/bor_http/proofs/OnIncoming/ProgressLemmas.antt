@@ -3,7 +3,6 @@ use Rattle.std.proofs.Common.{◌≡◌, ◌≤◌, ◌<◌, ◌+◌, ◌-◌, �
 use Rattle.std.specs.Option.{option_map_or}
 use Rattle.std.specs.Str.Parse.{digits_value}
 use Rattle.std.proofs.lemmas.Bool.{cases_lt}
-use Rattle.std.proofs.lemmas.Bool.Decides.{nat_tests}
 use Rattle.std.proofs.lemmas.List.{take-append-drop, take-append-le, take_all, length-take-le, length-drop}
 use Rattle.bor_http.specs.declared.incoming.fault.Refusal.{Refusal}
 use Rattle.bor_http.specs.declared.incoming.fault.Refusal.TheVariants.{HeadTooLarge, CutShort, BadHead, BadLength, BodyTooLarge}
@@ -16,7 +15,7 @@ use Rattle.bor_http.specs.Incoming.Message.{FieldText, Message, Parts, body_limi
 use Rattle.bor_http.specs.Incoming.Progress.{IsProgress, IsWhole, needs}
 use Rattle.bor_http.proofs.OnIncoming.HeadLemmas.{head_len-le, scanned_before}
 use Rattle.bor_http.proofs.OnIncoming.ReadingLemmas.{head-cut_short, head-found, head-too_large}
-use Rattle.bor_http.proofs.OnIncoming.MessageLemmas.{body_whole, message}
+use Rattle.bor_http.proofs.OnIncoming.MessageLemmas.{body_short, body_there, message}
 use Rattle.bor_http.proofs.OnIncoming.ByTable.{head_refused}
 use Rattle.bor_http.proofs.OnIncoming.Laws.{message_unique}
 
@@ -96,12 +95,6 @@ bad_length_comes bytes n parts why within head few has bad =
 
 -- ---- what has a body
 
-body_missing : (parts : Parts) (behind : List ℕ) (len : ℕ) → length behind < len → body_of parts behind len ≡ Err CutShort
-body_missing parts behind len lt = let t : nat_lt (length behind) len ≡ true = grind (arith, nat_tests) in rw t refl
-
-body_there : (parts : Parts) (behind : List ℕ) (len : ℕ) → len ≤ length behind → body_of parts behind len ≡ Ok (record { parts = parts; body = take len behind })
-body_there parts behind len le = rw append-nil at (body_whole parts behind [] len le)
-
 pub body_comes : (bytes : List ℕ) (n len : ℕ) (parts : Parts) → length bytes ≤ head_limit → head_len bytes ≡ Some n → with_few_lines bytes n ≡ Ok n
     → HasParts (take n bytes) (Ok parts) → body_len parts.fields ≡ Ok len → IsProgress bytes (Needs (n + len))
 body_comes bytes n len parts within head few has is = λ more.
@@ -111,7 +104,7 @@ body_comes bytes n len parts within head few has is = λ more.
     let it : IsMessage (bytes ++ more) (body_of parts behind len) =
     subst (IsMessage (bytes ++ more)) (ap (and_then (body_of parts behind)) is) (with_parts bytes more n (Ok parts) within head few has) in (
       λ whole. elim (cases_lt (length behind) len) [
-        | inl lt ↦ absurd (whole (subst (IsMessage (bytes ++ more)) (body_missing parts behind len lt) it))
+        | inl lt ↦ absurd (whole (subst (IsMessage (bytes ++ more)) (body_short parts behind len lt) it))
         | inr le ↦ omega (arith, sizes, le)
       ],
       λ le cut.

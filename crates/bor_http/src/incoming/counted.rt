@@ -1,19 +1,22 @@
 //! A reader or a writer that counts its faults.
 
-ghost use Rattle.std.specs.Prelude.{◌≡◌, if◌then◌else◌, is_ok};
+ghost use Rattle.std.specs.Prelude.{◌≡◌, false, if◌then◌else◌, is_ok};
 ghost use Rattle.std.specs.Io.{ReadsAtMost, WritesAtMost};
 ghost use Rattle.std.specs.Io.KnownBytes.{ReadConsumes, WriteAppends};
-ghost use Rattle.bor_http.specs.Incoming.Counted.{after_fault, takes_nothing};
+ghost use Rattle.bor_http.specs.Incoming.Counted.{after_fault, gives_nothing, takes_nothing};
 
 use std::io;
 use std::io::{Read, Write};
 
 /// A reader or a writer, with the number of its faults so far, modulo 2^64. A fault is a call that
-/// failed, an interruption too, or a write that took nothing of bytes.
+/// failed, an interruption too, or a write that took nothing of bytes. Of a reader it knows whether
+/// its last read gave nothing, as at its end, and how often it was asked again then.
 #[derive(Drop)]
 pub struct Counted<T> {
     inner: T,
     faults: u64,
+    is_over: bool,
+    late: u64,
 }
 
 impl<T> Counted<T> {
@@ -21,8 +24,15 @@ impl<T> Counted<T> {
     pub fn new(inner: T) -> Counted<T>
         ensures inner { result.inner ≡ inner }
         ensures faults { result.faults ≡ 0 }
+        ensures on { result.is_over ≡ false }
+        ensures late { result.late ≡ 0 }
     {
-        Counted { inner, faults: 0 }
+        Counted {
+            inner,
+            faults: 0,
+            is_over: false,
+            late: 0,
+        }
     }
 
     /// How many faults there were, modulo 2^64.
@@ -30,6 +40,13 @@ impl<T> Counted<T> {
         ensures { result ≡ self.now.faults }
     {
         self.faults
+    }
+
+    /// How often a reader was asked again when its last read had given nothing, modulo 2^64.
+    pub fn late(&self) -> u64
+        ensures { result ≡ self.now.late }
+    {
+        self.late
     }
 }
 
@@ -45,8 +62,18 @@ impl<R: Read> Counted<R> {
             (R.remaining self.new.inner) result buf.new }
         ensures faults { self.new.faults
             ≡ (if is_ok result then self.old.faults else after_fault self.old.faults) }
+        ensures over { self.new.is_over ≡ gives_nothing result }
+        ensures late { self.new.late
+            ≡ (if self.old.is_over then after_fault self.old.late else self.old.late) }
     {
+        if self.is_over {
+            self.late = self.late.wrapping_add(1);
+        }
         let result = self.inner.read(buf);
+        self.is_over = match &result {
+            Ok(n) => *n == 0,
+            Err(_) => true,
+        };
         if result.is_err() {
             self.faults = self.faults.wrapping_add(1);
         }

@@ -1,14 +1,147 @@
-//! Laws of the request that an input begins with. Each function does nothing: its contract is the
-//! law.
+//! The message that bytes are: its head, taken apart, and its body.
 
-ghost use Rattle.bor_http.specs.Incoming.Laws.{OneRequest, RestIsIgnored};
+ghost use Rattle.std.specs.Prelude.{◌≡◌, ◌≤◌, IfOk};
+ghost use Rattle.std.specs.Option.{option_map};
+ghost use Rattle.bor_http.specs.Incoming.Head.{line_feeds, line_limit};
+ghost use Rattle.bor_http.specs.Incoming.Message.{only_value};
+ghost use Rattle.bor_http.specs.Incoming.Reading.{IsReadAs};
+ghost use Rattle.bor_http.specs.Incoming.Steps.{AreWithin, HeadAnswers, parts_at};
 
-/// An input is one request, or is refused as one thing.
-pub fn an_input_is_one_request()
-    ensures { OneRequest }
-{}
+use crate::incoming::fault::{Refusal, WireFault};
+use crate::incoming::fields::{count_named, find_value};
+use crate::incoming::head::{has_few_lines, head_end_from};
+use crate::incoming::lengths::body_length;
+use httparse::Status;
+use httparse::spans::{EMPTY_HEADER_SPAN, HeaderSpan, Span, parse_request};
+use std::alloc::Global;
+use std::marker::Model;
 
-/// The bytes behind the body of a request have no part in it.
-pub fn what_stands_behind_is_ignored()
-    ensures { RestIsIgnored }
-{}
+/// The most bytes of a head.
+pub(crate) const HEAD_LIMIT: usize = 16_384;
+
+// The most fields of a head.
+const FIELD_LIMIT: usize = 64;
+
+/// Where the parts of a head are.
+#[derive(Drop)]
+pub(crate) struct HeadSpans {
+    pub(crate) method: Span,
+    pub(crate) target: Span,
+    pub(crate) fields: Vec<HeaderSpan>,
+}
+
+/// Takes apart bytes that are to be one head and nothing else.
+pub(crate) fn parse_head(alloc: Global, head: &[u8]) -> Result<HeadSpans, WireFault>
+    requires { line_feeds head.now ≤ line_limit }
+    ensures within { IfOk result (λ s. AreWithin head.now s.method s.target s.fields.items) }
+    ensures parts { HeadAnswers
+        (λ s. parts_at head.now s.method s.target s.fields.items) head.now result }
+{
+    let mut fields = [EMPTY_HEADER_SPAN; FIELD_LIMIT];
+    match parse_request(head, &mut fields) {
+        Ok(Status::Complete(found)) => {
+            if found.len != head.len() {
+                return Err(WireFault::Refused(Refusal::BadHead));
+            }
+            Ok(HeadSpans {
+                method: found.method,
+                target: found.path,
+                fields: Vec::from_slice(alloc, &fields[..found.headers])?,
+            })
+        }
+        Ok(Status::Partial) => Err(WireFault::Refused(Refusal::BadHead)),
+        Err(_) => Err(WireFault::Refused(Refusal::BadHead)),
+    }
+}
+
+/// A request in bytes that hold it whole: a head (RFC 9112) and as many bytes behind it as the head
+/// says. Only [`message_in`] makes one.
+#[derive(Drop)]
+pub struct RawRequest<'a> {
+    head: &'a [u8],
+    spans: HeadSpans,
+    body: &'a [u8],
+}
+
+impl<'a> Model for RawRequest<'a> {
+    ghost use Rattle.bor_http.specs.Incoming.Message.{Message};
+    ghost use Rattle.bor_http.specs.Incoming.Steps.{AreWithin, parts_at};
+
+    ghost Value = { Message };
+
+    ghost view = { λ r. record {
+      parts = parts_at r.head.now r.spans.method r.spans.target r.spans.fields.items;
+      body = r.body.now;
+    } };
+
+    ghost invariant = { λ r. AreWithin r.head.now r.spans.method r.spans.target
+        r.spans.fields.items };
+}
+
+impl<'a> RawRequest<'a> {
+    /// The method, as it stands.
+    pub fn method(&self) -> &[u8]
+        ensures { result.now ≡ self.now.parts.method }
+    {
+        self.spans.method.of(self.head)
+    }
+
+    /// The target, as it stands: a path and a query.
+    pub fn target(&self) -> &[u8]
+        ensures { result.now ≡ self.now.parts.target }
+    {
+        self.spans.target.of(self.head)
+    }
+
+    /// The body, of at most 1,048,576 bytes.
+    pub fn body(&self) -> &[u8]
+        ensures { result.now ≡ self.now.body }
+    {
+        self.body
+    }
+
+    /// The value of the one field that has the name, in whichever letter case, if there is exactly
+    /// one; without the blanks at its ends.
+    pub fn only(&self, name: &[u8]) -> Option<&[u8]>
+        ensures { option_map (λ value. value.now) result
+            ≡ only_value name.now self.now.parts.fields }
+    {
+        if count_named(self.head, &self.spans.fields, name) == 1 {
+            find_value(self.head, &self.spans.fields, name)
+        } else {
+            None
+        }
+    }
+}
+
+/// The request that these bytes begin with. What stands behind its body has no part in it.
+///
+/// # Errors
+///
+/// `Refused`: the bytes are no request; what comes first of [`Refusal`], up to the second
+/// `CutShort`. `Memory`: memory is wanting. No reader is asked, so `Read` is never answered.
+pub fn message_in<'a>(alloc: Global, input: &'a [u8]) -> Result<RawRequest<'a>, WireFault>
+    ensures { IsReadAs input.now result }
+{
+    let front = &input[..HEAD_LIMIT.min(input.len())];
+    let Some(len) = head_end_from(front, 0) else {
+        if input.len() < HEAD_LIMIT {
+            return Err(WireFault::Refused(Refusal::CutShort));
+        }
+        return Err(WireFault::Refused(Refusal::HeadTooLarge));
+    };
+    let (head, behind) = input.split_at(len);
+    if !has_few_lines(head) {
+        return Err(WireFault::Refused(Refusal::HeadTooLarge));
+    }
+    let spans = parse_head(alloc, head)?;
+    let wanted = body_length(head, &spans.fields)?;
+    if behind.len() < wanted {
+        return Err(WireFault::Refused(Refusal::CutShort));
+    }
+    Ok(RawRequest {
+        head,
+        spans,
+        body: &behind[..wanted],
+    })
+}

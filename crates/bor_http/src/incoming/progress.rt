@@ -8,11 +8,8 @@ ghost use Rattle.bor_http.specs.Incoming.Progress.{IsProgress, IsWhole, needs};
 use crate::incoming::fault::WireFault;
 use crate::incoming::head::{has_few_lines, head_end_from};
 use crate::incoming::lengths::body_length;
-use crate::incoming::request::parse_head;
+use crate::incoming::message::{HEAD_LIMIT, parse_head};
 use std::alloc::{AllocError, Global};
-
-// The most bytes of a head.
-const HEAD_LIMIT: usize = 16_384;
 
 /// How much of a request has come.
 #[derive(Clone, Copy, PartialEq, Eq)]

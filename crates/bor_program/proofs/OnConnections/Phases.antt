@@ -1,12 +1,12 @@
 -- Steps of clients are steps of the server.
 use Rattle.bor_register.specs.declared.fault.StoreFault.{StoreFault}
-use Rattle.std.proofs.Common.{◌≡◌, ◌≢◌, ◌<◌, ◌∙◌, ◌++◌, List, [], ◌∷◌, ℕ, Option, None, Some, arith, inl, inr, refl, sym, subst}
+use Rattle.std.proofs.Common.{◌≡◌, ◌≢◌, ◌<◌, ◌∙◌, ◌++◌, List, [], ◌∷◌, ℕ, Option, None, arith, refl, sym, subst}
 use Rattle.std.specs.declared.time.Duration.{Duration}
 use Rattle.bor_records.specs.Promises.{Meaning, Promised}
 use Rattle.bor_register.specs.Register.{Register}
 use Rattle.bor_wire.specs.Sent.{Sent}
 use Rattle.bor_wire.specs.Answering.{Responds}
-use Rattle.bor_program.specs.Connections.Serving.{GivenReply, IsNoteOn, IsServing, answer_of}
+use Rattle.bor_program.specs.Connections.Serving.{GivenReply, IsServing, answer_of}
 use Rattle.bor_program.specs.declared.log.Note.{Note}
 use Rattle.bor_program.specs.Logging.{IsNoteOf, MayNote}
 use Rattle.bor_program.specs.Connections.Streams.{EndedOn, Wire}
@@ -25,19 +25,13 @@ pub same_step : {K S Left : Type 0} (meaning : Meaning K Register Left StoreFaul
 same_step meaning wire keep this that notes same = λ start others tally noted before.
     subst (λ l. IsServing meaning (EndedOn wire) start keep (l ++ others) (record tally { notes = noted ++ notes })) (sym same) before
 
-noted_so : (promised : (Register → Type 0) → Type 0) (request : List ℕ) (reply : Sent) (before after : List Note) → MayNote (IsNoteOf promised request reply) before after
-    → MayNote (IsNoteOn promised (answer_of request reply)) before after
-noted_so promised request reply before after (inl same) = inl same
-noted_so promised request reply before after (inr more) = inr (more.0, more.1, record { out = reply; is = refl; so = more.2 })
-
 -- a reply in memory is an answer
 pub answer_step : {K S Left : Type 0} (meaning : Meaning K Register Left StoreFault) (wire : Wire S) (old new : K) (request : List ℕ) (reply : Sent) (that : List GivenReply) (before after : List Note)
-    → that ≡ answer_of request reply ∷ [] → Responds meaning old new (Some request) reply → MayNote (IsNoteOf (Promised meaning old new) request reply) before after
+    → that ≡ answer_of request reply ∷ [] → Responds meaning old new request reply → MayNote (IsNoteOf (Promised meaning old new) request reply) before after
     → IsStep meaning wire (stand_at old [] before) (stand_at new that after)
 answer_step meaning wire old new request reply that before after is responds notes = λ start others tally noted was.
     subst (λ l. IsServing meaning (EndedOn wire) start new (l ++ others) (record tally { notes = noted ++ after })) (sym is)
-    (answers meaning (EndedOn wire) start old new others tally (answer_of request reply) noted before after was (noted_so (Promised meaning old new) request reply before after notes) responds.leaves
-    (λ r shown clean legal. responds.exchanged r shown clean legal.names) responds.up)
+    (answers meaning (EndedOn wire) start old new others tally (answer_of request reply) noted before after was notes responds)
 
 pub then_steps : {K S Left : Type 0} (meaning : Meaning K Register Left StoreFault) (wire : Wire S) (this between that : Stand K)
     → IsStep meaning wire this between → IsStep meaning wire between that → IsStep meaning wire this that

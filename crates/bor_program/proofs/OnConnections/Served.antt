@@ -1,26 +1,25 @@
 -- A server of many connections: one answers, or some end.
 use Rattle.bor_register.specs.declared.fault.StoreFault.{StoreFault}
-use Rattle.std.proofs.Common.{◌≡◌, ◌+◌, ℕ, List, [], ◌∷◌, ◌++◌, length, Bool, true, false, Some, inl, inr, refl, sym, ap, subst, ◌∙◌, arith, append_assoc, length-append}
+use Rattle.std.proofs.Common.{◌≡◌, ◌+◌, ℕ, List, [], ◌∷◌, ◌++◌, length, Bool, true, false, inl, inr, refl, sym, ap, subst, ◌∙◌, arith, append_assoc, length-append}
 use Rattle.std.specs.Prelude.{cond, if◌then◌else◌, ◌||◌}
 use Rattle.std.specs.List.{All, list_any}
 use Rattle.std.specs.List.Sorted.{IsPermutation}
 use Rattle.std.proofs.lemmas.List.{map-append}
 use Rattle.std.proofs.lemmas.List.Folds.{list_any-append}
-use Rattle.std.proofs.lemmas.List.Elements.{All-append, All-nil, All-weaker}
+use Rattle.std.proofs.lemmas.List.Elements.{All-append, All-nil, All-push, All-weaker}
 use Rattle.std.proofs.lemmas.List.Sums.{sum_by-append}
 use Rattle.std.proofs.lemmas.List.Sorted.{IsPermutation-append_left, IsPermutation-cons, IsPermutation-refl, IsPermutation-to_front, IsPermutation-trans}
-use Rattle.bor_records.specs.Promises.{Leaves, Meaning, Promised}
+use Rattle.bor_records.specs.Promises.{Meaning, Promised}
 use Rattle.bor_register.specs.Register.{Register}
 use Rattle.bor_desk.specs.Operations.Legality.{IsLegal}
-use Rattle.bor_wire.specs.declared.outcome.Outcome.TheVariants.{Replied}
-use Rattle.bor_wire.specs.Exchanges.{IsExchanged, ShowsAfter}
-use Rattle.bor_wire.specs.Sequences.{AreExchanged, Exchanged, IsRun, keep_left}
-use Rattle.bor_wire.specs.Turns.{AllAnswerClean, AnswersClean}
+use Rattle.bor_wire.specs.Answering.{Responds}
+use Rattle.bor_wire.specs.Sequences.{AreExchanged, Exchanged, IsNext, IsRun, keep_left}
+use Rattle.bor_wire.specs.Turns.{AnswersClean}
 use Rattle.bor_wire.proofs.SequenceLaws.{a_run}
-use Rattle.bor_wire.proofs.TurnLaws.{open_more}
+use Rattle.bor_wire.proofs.TurnLaws.{exchanged_more, left_more, next}
 use Rattle.bor_program.specs.declared.log.Note.{Note}
-use Rattle.bor_program.specs.Logging.{MayNote}
-use Rattle.bor_program.specs.Connections.Serving.{GivenReply, Answered, AreNotes, Ended, IsNoteOn, IsServed, IsServedAs, IsServing, Tally, absent_in, answers_in, exchange_of, exchanges_of, has_failed, is_absent, told_in, told_on}
+use Rattle.bor_program.specs.Logging.{IsNoteOf, MayNote}
+use Rattle.bor_program.specs.Connections.Serving.{GivenReply, Answered, AreNotes, Ended, IsServed, IsServedAs, IsServing, Tally, absent_in, answers_in, exchange_of, exchanges_of, has_failed, is_absent, told_in, told_on}
 
 -- ---- lists
 
@@ -35,17 +34,6 @@ pub either : (now before : Bool) (m n : ℕ) → (if now then m else (if before 
 either true before m n = refl
 either false before m n = refl
 
--- ---- one exchange more
-
-left_more : {K : Type 0} (keep : K) (es : List (Exchanged K)) (e : Exchanged K) → keep_left keep (es ++ e ∷ []) ≡ e.keep
-left_more keep [] e = refl
-left_more keep (x ∷ es) e = left_more x.keep es e
-
-each_more : {K Left : Type 0} (meaning : Meaning K Register Left StoreFault) (keep : K) (es : List (Exchanged K)) (e : Exchanged K) → AreExchanged meaning keep es
-    → AreExchanged meaning (keep_left keep es) (e ∷ []) → AreExchanged meaning keep (es ++ e ∷ [])
-each_more meaning keep [] e h last = last
-each_more meaning keep (x ∷ es) e h last = (h.0, each_more meaning x.keep es e h.1 last)
-
 -- ---- notes of what was answered
 
 noted_none : {K Left : Type 0} (meaning : Meaning K Register Left StoreFault) (keep : K) (answered : List (Answered K)) (one : Answered K) (notes : List Note)
@@ -55,19 +43,19 @@ noted_none meaning keep (a ∷ rest) one notes (inl h) = inl (noted_none meaning
 noted_none meaning keep (a ∷ rest) one notes (inr h) = inr (h.0, h.1, h.2, h.3, noted_none meaning a.keep rest one h.1 h.4)
 
 noted_one : {K Left : Type 0} (meaning : Meaning K Register Left StoreFault) (keep : K) (answered : List (Answered K)) (one : Answered K) (notes : List Note) (note : Note)
-    → AreNotes meaning keep answered notes → IsNoteOn (Promised meaning (keep_left keep (exchanges_of answered)) one.keep) one.answer note → AreNotes meaning keep (answered ++ one ∷ []) (notes ++ note ∷ [])
+    → AreNotes meaning keep answered notes → IsNoteOf (Promised meaning (keep_left keep (exchanges_of answered)) one.keep) one.answer.request one.answer.reply note → AreNotes meaning keep (answered ++ one ∷ []) (notes ++ note ∷ [])
 noted_one meaning keep [] one notes note h is = inr (note, [], ap (λ l. l ++ note ∷ []) h, is, refl)
 noted_one meaning keep (a ∷ rest) one notes note (inl h) is = inl (noted_one meaning a.keep rest one notes note h is)
 noted_one meaning keep (a ∷ rest) one notes note (inr h) is =
     inr (h.0, h.1 ++ note ∷ [], ap (λ l. l ++ note ∷ []) h.2, h.3, noted_one meaning a.keep rest one h.1 note h.4 is)
 
 noted_more : {K Left : Type 0} (meaning : Meaning K Register Left StoreFault) (old keep : K) (answered : List (Answered K)) (one : Answered K) (noted before after : List Note)
-    → keep_left old (exchanges_of answered) ≡ keep → AreNotes meaning old answered (noted ++ before) → MayNote (IsNoteOn (Promised meaning keep one.keep) one.answer) before after
+    → keep_left old (exchanges_of answered) ≡ keep → AreNotes meaning old answered (noted ++ before) → MayNote (IsNoteOf (Promised meaning keep one.keep) one.answer.request one.answer.reply) before after
     → AreNotes meaning old (answered ++ one ∷ []) (noted ++ after)
 noted_more meaning old keep answered one noted before after left h (inl same) =
     subst (λ l. AreNotes meaning old (answered ++ one ∷ []) (noted ++ l)) (sym same) (noted_none meaning old answered one (noted ++ before) h)
 noted_more meaning old keep answered one noted before after left h (inr more) =
-    let is = subst (λ k. IsNoteOn (Promised meaning k one.keep) one.answer more.0) (sym left) more.2 in
+    let is = subst (λ k. IsNoteOf (Promised meaning k one.keep) one.answer.request one.answer.reply more.0) (sym left) more.2 in
     subst (AreNotes meaning old (answered ++ one ∷ [])) (append_assoc noted before (more.0 ∷ []) ∙ ap (λ l. noted ++ l) (sym more.1)) (noted_one meaning old answered one (noted ++ before) more.0 h is)
 
 -- ---- the server
@@ -79,7 +67,7 @@ nothing_served meaning Is keep connections = record {
   ended = [];
   count = omega arith;
   each = tt;
-  answer_clean = tt;
+  answer_clean = All-nil (AnswersClean meaning);
   left = refl;
   told_once = IsPermutation-refl [];
   ended_so = All-nil Is;
@@ -90,23 +78,21 @@ nothing_served meaning Is keep connections = record {
 
 -- a request was answered
 pub answers : {K Left : Type 0} (meaning : Meaning K Register Left StoreFault) (Is : Ended → Type 0) (old keep new : K) (telling : List GivenReply) (tally : Tally) (answer : GivenReply) (noted before after : List Note)
-    → IsServing meaning Is old keep telling (record tally { notes = noted ++ before }) → MayNote (IsNoteOn (Promised meaning keep new) answer) before after → Leaves meaning keep new (ShowsAfter meaning.left_shows (Some answer.request))
-    → Promised meaning keep new (λ r. IsLegal r → IsExchanged (Replied answer.status) (meaning.shows new) r (Some answer.request) (Some []) (Some answer.reply))
-    → AnswersClean meaning (exchange_of (record { answer = answer; keep = new }))
+    → IsServing meaning Is old keep telling (record tally { notes = noted ++ before }) → MayNote (IsNoteOf (Promised meaning keep new) answer.request answer.reply) before after
+    → Responds meaning keep new answer.request answer.reply
     → IsServing meaning Is old new (answer ∷ telling) (record tally { notes = noted ++ after })
-answers {K} meaning Is old keep new telling tally answer noted before after h notes leaves exchanged up =
+answers {K} meaning Is old keep new telling tally answer noted before after h notes responds =
     let one : Answered K = record { answer = answer; keep = new } in
     let es : List (Exchanged K) = exchanges_of h.answered in
     let more : exchanges_of (h.answered ++ one ∷ []) ≡ es ++ exchange_of one ∷ [] = map-append exchange_of h.answered (one ∷ []) in
-    let last : AreExchanged meaning keep (exchange_of one ∷ []) = (record { leaves = leaves; exchanged = exchanged }, tt) in
-    let each = each_more meaning old es (exchange_of one) h.each (subst (λ k. AreExchanged meaning k (exchange_of one ∷ [])) (sym h.left) last) in
+    let each = exchanged_more meaning old es (exchange_of one) h.each (subst (λ k. IsNext meaning k (exchange_of one)) (sym h.left) (next meaning keep new answer.request answer.reply responds)) in
     let front : answers_in (h.answered ++ one ∷ []) ≡ answers_in h.answered ++ answer ∷ [] = map-append (λ a. a.answer) h.answered (one ∷ []) in
     record {
       answered = h.answered ++ one ∷ [];
       ended = h.ended;
       count = h.count;
       each = subst (AreExchanged meaning old) (sym more) each;
-      answer_clean = subst (AllAnswerClean meaning) (sym more) (open_more meaning es (exchange_of one) h.answer_clean up);
+      answer_clean = subst (All (AnswersClean meaning)) (sym more) (All-push (AnswersClean meaning) es (exchange_of one) h.answer_clean responds.up);
       left = ap (keep_left old) more ∙ left_more old es (exchange_of one);
       told_once = subst (λ l. IsPermutation l (answer ∷ telling ++ told_in h.ended)) (sym front) (
           IsPermutation-trans (answers_in h.answered ++ answer ∷ []) (answer ∷ answers_in h.answered) (answer ∷ (telling ++ told_in h.ended))

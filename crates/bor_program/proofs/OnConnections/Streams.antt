@@ -1,11 +1,11 @@
 -- The facts that are known of a client's stream, read after read and write after write.
-use Rattle.std.proofs.Common.{◌≡◌, ◌≤◌, ◌<◌, ◌↔◌, Bool, true, false, inl, inr, arith, ℕ, List, [], ◌++◌, Option, Some, None, length, take, refl, sym, ap, ◌∙◌, append_assoc, append-nil, length-append}
-use Rattle.std.proofs.lemmas.Bool.{cases_lt, iff_false}
+use Rattle.std.proofs.Common.{◌≤◌, arith, ℕ, List, [], ◌++◌, Option, Some, None, length, take, refl, sym, ap, ◌∙◌, append_assoc, append-nil, length-append}
 use Rattle.std.specs.Io.KnownBytes.{Appends, Consumes}
 use Rattle.bor_http.specs.Incoming.Head.{head_len}
 use Rattle.bor_http.specs.Incoming.Message.{request_limit}
 use Rattle.bor_http.specs.Incoming.Progress.{IsWhole}
 use Rattle.bor_http.proofs.OnIncoming.ProgressLemmas.{missing}
+use Rattle.bor_wire.specs.Sent.{bytes_sent}
 use Rattle.bor_program.specs.Connections.Serving.{GivenReply}
 use Rattle.bor_program.specs.Connections.Streams.{Came, Drops, IsDraining, IsReady, IsReplySent, IsUnanswered, IsWriting, Wire}
 
@@ -38,19 +38,13 @@ pub appends_nothing : (known : Option (List ℕ)) (bytes : List ℕ) → Appends
 appends_nothing None bytes = tt
 appends_nothing (Some xs) bytes = sym (append-nil xs)
 
-pub not_reached : (needed count len : ℕ) (is_whole : Bool) → ((is_whole ≡ true) ↔ (needed ≤ len)) → is_whole ≡ false → len ≡ count → count < needed
-not_reached needed count len is_whole both isnt same = elim (cases_lt count needed) [
-  | inl lt ↦ lt
-  | inr le ↦ absurd (iff_false both isnt (omega (arith, le, same)))
-]
-
 -- ---- a reply
 
 -- nothing of it was written yet
 pub begins_writing : {S : Type 0} (wire : Wire S) (stream : S) (answer : GivenReply) → Came wire.remaining stream answer.request → length answer.request ≤ request_limit → IsReady wire.remaining stream answer
     → IsWriting wire stream answer 0
 begins_writing wire stream answer came fits ready =
-    record { read = stream; came = came; fits = fits; ready = ready; within = omega arith; written = appends_nothing (wire.contents stream) answer.reply }
+    record { read = stream; came = came; fits = fits; ready = ready; within = omega arith; written = appends_nothing (wire.contents stream) (bytes_sent answer.reply) }
 
 -- ---- behind a reply
 
@@ -71,7 +65,7 @@ told_writing wire stream answer sent h =
     record { written = stream; told = h; let_go = stream; dropped = []; behind = consumes_nothing (wire.remaining stream); bound = omega arith }
 
 pub told_draining : {S : Type 0} (wire : Wire S) (stream : S) (answer : GivenReply) (left : ℕ) → IsDraining wire stream answer left
-    → IsReplySent wire answer (length answer.reply)
+    → IsReplySent wire answer (length (bytes_sent answer.reply))
 told_draining wire stream answer left h =
     let drops = h.dropped in
     record { written = h.written; told = h.told; let_go = stream; dropped = drops.0; behind = drops.1; bound = omega (arith, drops.2) }

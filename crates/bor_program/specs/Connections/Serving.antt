@@ -1,16 +1,15 @@
 -- The keep that serving many clients at once leaves, and its status.
 use Rattle.bor_register.specs.declared.fault.StoreFault.{StoreFault}
-use Rattle.std.specs.Prelude.{◌≡◌, ◌+◌, ℕ, List, [], ◌∷◌, ◌++◌, length, map, count_by, Some, Bool}
+use Rattle.std.specs.Prelude.{◌≡◌, ◌+◌, ℕ, List, [], ◌∷◌, ◌++◌, length, map, count_by, Bool}
 use Rattle.std.specs.Prelude.{true, false, ◌==◌, ◌||◌, ◌⊎◌, nat_lt, if◌then◌else◌, ⊤}
 use Rattle.std.specs.List.{All, list_any}
 use Rattle.std.specs.List.Sorted.{IsPermutation}
 use Rattle.bor_records.specs.Promises.{Meaning, Promised}
 use Rattle.bor_register.specs.Register.{Register}
 use Rattle.bor_desk.specs.Operations.Legality.{IsLegal}
-use Rattle.bor_wire.specs.declared.outcome.Outcome.TheVariants.{Replied}
 use Rattle.bor_wire.specs.Sent.{Sent, bytes_sent, status_sent}
 use Rattle.bor_wire.specs.Sequences.{AreExchanged, Exchanged, IsRun, keep_left}
-use Rattle.bor_wire.specs.Turns.{AllAnswerClean}
+use Rattle.bor_wire.specs.Turns.{AnswersClean}
 use Rattle.bor_program.specs.declared.log.Note.{Note}
 use Rattle.bor_program.specs.Courses.{Course}
 use Rattle.bor_program.specs.Logging.{IsNoteOf}
@@ -20,31 +19,22 @@ use Rattle.bor_program.specs.Connections.Watching.{Act, AreDone, IsExcused, OnWa
 
 -- ---- answers
 
--- a request that was answered: its bytes, and the status and the bytes of its reply
+-- a request that was answered, and its reply
 pub record GivenReply : Type 0 where
   pub request : List ℕ
-  pub status : ℕ
-  pub reply : List ℕ
+  pub reply : Sent
 
 abbrev pub answer_of : List ℕ → Sent → GivenReply
-answer_of request out =
-    record { request = request; status = status_sent out; reply = bytes_sent out }
+answer_of request reply = record { request = request; reply = reply }
 
 -- an answer, and the keep that it left
 pub record Answered (K : Type 0) : Type 0 where
   pub answer : GivenReply
   pub keep : K
 
--- the exchange that it was, over bytes that are known
+-- the exchange that it was
 abbrev pub exchange_of : {K : Type 0} → Answered K → Exchanged K
-exchange_of a =
-    record {
-      known = Some a.answer.request;
-      outcome = Replied a.answer.status;
-      held = Some [];
-      holds = Some a.answer.reply;
-      keep = a.keep;
-    }
+exchange_of a = record { input = a.answer.request; reply = a.answer.reply; keep = a.keep }
 
 abbrev pub exchanges_of : {K : Type 0} → List (Answered K) → List (Exchanged K)
 exchanges_of answered = map exchange_of answered
@@ -54,13 +44,6 @@ answers_in answered = map (λ a. a.answer) answered
 
 -- ---- notes
 
--- this note is of a request that had this answer
-pub record IsNoteOn (promised : (Register → Type 0) → Type 0) (answer : GivenReply)
-    (note : Note) : Type 0 where
-  pub out : Sent
-  pub is : answer ≡ answer_of answer.request out
-  pub so : IsNoteOf promised answer.request out note
-
 -- These notes are of requests that were answered from this keep on, in the same order, each of
 -- another one. Some may have no note.
 abbrev pub AreNotes : {K Left : Type 0} → Meaning K Register Left StoreFault → K
@@ -69,7 +52,8 @@ AreNotes meaning keep [] notes = notes ≡ []
 AreNotes meaning keep (a ∷ rest) notes =
     AreNotes meaning a.keep rest notes
     ⊎ ((note : Note) × (more : List Note) × (notes ≡ note ∷ more)
-    × IsNoteOn (Promised meaning keep a.keep) a.answer note × AreNotes meaning a.keep rest more)
+    × IsNoteOf (Promised meaning keep a.keep) a.answer.request a.answer.reply note
+    × AreNotes meaning a.keep rest more)
 
 -- ---- how connections ended
 
@@ -86,7 +70,8 @@ pub data Ended : Type 0 where
 abbrev pub has_failed : Ended → Bool
 has_failed Absent = true
 has_failed (Unanswered request) = true
-has_failed (Told answer sent) = answer.status == 503 || nat_lt sent (length answer.reply)
+has_failed (Told answer sent) =
+    status_sent answer.reply == 503 || nat_lt sent (length (bytes_sent answer.reply))
 
 -- on so many of these no client came
 abbrev pub is_absent : Ended → Bool
@@ -133,7 +118,7 @@ pub record IsServing {K Left : Type 0} (meaning : Meaning K Register Left StoreF
   pub ended : List Ended
   pub count : length ended + tally.pending ≡ tally.connections
   pub each : AreExchanged meaning old (exchanges_of answered)
-  pub answer_clean : AllAnswerClean meaning (exchanges_of answered)
+  pub answer_clean : All (AnswersClean meaning) (exchanges_of answered)
   pub left : keep_left old (exchanges_of answered) ≡ new
   pub told_once : IsPermutation (answers_in answered) (telling ++ told_in ended)
   pub ended_so : All Is ended

@@ -7,6 +7,7 @@ use Rattle.bor_http.specs.declared.incoming.progress.Progress.{Progress}
 use Rattle.bor_http.specs.Incoming.Message.{request_limit}
 use Rattle.bor_http.specs.Incoming.Progress.{IsProgress, IsWhole, needs}
 use Rattle.bor_program.specs.Connections.Limits.{rest_limit}
+use Rattle.bor_wire.specs.Sent.{bytes_sent, status_sent}
 use Rattle.bor_program.specs.Connections.Serving.{GivenReply, Ended, Absent, Unanswered, Told}
 
 -- What is known of streams: the bytes that may still be read of one, and those that were written to
@@ -54,7 +55,7 @@ pub record Received (known left : Option (List ℕ)) (old new : List ℕ) (room 
 -- the request is whole, or its client has ended it, or there was no memory for it
 abbrev pub IsReady : {S : Type 0} → (S → Option (List ℕ)) → S → GivenReply → Type 0
 IsReady remaining stream answer =
-    IsWhole answer.request ⊎ (IsAtEnd (remaining stream) ⊎ (answer.status ≡ 503))
+    IsWhole answer.request ⊎ (IsAtEnd (remaining stream) ⊎ (status_sent answer.reply ≡ 503))
 
 -- The request was read from this very stream, is no longer than a request may be, and was ready
 -- when it was answered; and so many bytes of the reply to it, and nothing else, were written to the
@@ -65,8 +66,9 @@ pub record IsWriting {S : Type 0} (wire : Wire S) (stream : S) (answer : GivenRe
   pub came : Came wire.remaining read answer.request
   pub fits : length answer.request ≤ request_limit
   pub ready : IsReady wire.remaining read answer
-  pub within : sent ≤ length answer.reply
-  pub written : Appends (wire.contents read) (wire.contents stream) (take sent answer.reply)
+  pub within : sent ≤ length (bytes_sent answer.reply)
+  pub written : Appends (wire.contents read) (wire.contents stream)
+      (take sent (bytes_sent answer.reply))
 
 -- of as many bytes as may still be read, those that were read are left out
 abbrev pub Drops : Option (List ℕ) → Option (List ℕ) → ℕ → ℕ → Type 0
@@ -78,7 +80,7 @@ Drops known left before after =
 pub record IsDraining {S : Type 0} (wire : Wire S) (stream : S) (answer : GivenReply)
     (left : ℕ) : Type 0 where
   pub written : S
-  pub told : IsWriting wire written answer (length answer.reply)
+  pub told : IsWriting wire written answer (length (bytes_sent answer.reply))
   pub dropped : Drops (wire.remaining written) (wire.remaining stream) rest_limit left
 
 -- So many bytes of the reply were written to the stream that its request was read from, and since

@@ -1,6 +1,6 @@
 //! The service that answers requests: the register's desk, behind the paths that there are.
 
-ghost use Rattle.std.specs.Prelude.{◌≡◌, [], Some, false};
+ghost use Rattle.std.specs.Prelude.{◌≡◌, [], false};
 ghost use Rattle.bor_records.specs.Promises.{Promised};
 ghost use Rattle.bor_wire.specs.Answering.{Responds};
 ghost use Rattle.bor_program.specs.Logging.{IsNoteOf, MayNote};
@@ -45,7 +45,7 @@ impl Service {
 
     /// Answers the request in these bytes.
     pub(crate) fn respond<K: Keep>(&mut self, keep: &mut K, request: &[u8]) -> Reply
-        ensures answers { Responds K.meaning keep.old keep.new (Some request.now) result }
+        ensures answers { Responds K.meaning keep.old keep.new request.now result }
         ensures noted { MayNote (IsNoteOf
             (Promised K.meaning keep.old keep.new) request.now result)
             self.old.notes.items self.new.notes.items }

@@ -108,7 +108,8 @@ impl<S: Read + Write + OpenStream> Writing<S> {
         ensures request { self.new.request ≡ self.old.request }
         ensures reply { self.new.reply ≡ self.old.reply }
         ensures taking { self.new.taking ≡ self.old.taking }
-        ensures whole { result ≡ Written.Whole → self.new.sent ≡ length (bytes_sent self.new.reply) }
+        ensures whole { result ≡ Written.Whole
+            → self.new.sent ≡ length (bytes_sent self.new.reply) }
         ensures more { result ≡ Written.More → self.old.sent < self.new.sent }
         ensures other { result ≢ Written.More → self.new.sent ≡ self.old.sent }
     {

@@ -1,11 +1,14 @@
 -- The request that an input spells, from the message that it is, and that there is only one.
-use Rattle.std.proofs.Common.{◌≡◌, ◌≢◌, ℕ, List, [], ◌∷◌, ◌++◌, length, take, drop, Option, Some, None, Err, Bool, true, false, not, ◌&&◌, refl, sym, ap, subst, ◌∙◌}
+use Rattle.std.proofs.Common.{◌≡◌, ◌≢◌, ℕ, List, [], ◌∷◌, ◌++◌, length, take, drop, Option, Some, None, Ok, Err, Bool, true, false, not, ◌&&◌, refl, sym, ap, subst, ◌∙◌}
 use Rattle.std.specs.Prelude.{Result, nat_lt}
 use Rattle.std.specs.Option.{is_none}
 use Rattle.bor_terms.specs.Tables.{table, outcome}
 use Rattle.bor_desk.specs.Runs.{Asked}
 use Rattle.bor_http.specs.declared.incoming.fault.Refusal.{Refusal}
 use Rattle.bor_http.specs.declared.incoming.fault.Refusal.TheVariants.{HeadTooLarge, CutShort, BadHead}
+use Rattle.bor_http.specs.declared.incoming.fault.WireFault.{WireFault}
+use Rattle.bor_http.specs.declared.incoming.fault.WireFault.TheVariants.{Refused, Read, Memory}
+use Rattle.bor_http.specs.Incoming.Reading.{IsRefusedAs, SaysAll}
 use Rattle.bor_http.specs.Incoming.Head.{head_end, head_limit, line_limit, line_feeds}
 use Rattle.bor_http.specs.Incoming.Message.{Parts, Message}
 use Rattle.bor_http.specs.Incoming.Refusals.{refuse, lines_of_input, message_in, message_of, message_read, IsMessage}
@@ -13,7 +16,9 @@ use Rattle.bor_http.specs.Incoming.Steps.{◌>>=◌}
 use Rattle.bor_http.proofs.OnIncoming.ByTable.{one_head}
 use Rattle.bor_http.proofs.OnIncoming.Laws.{message_follows}
 use Rattle.bor_wire.specs.Spelling.Refusals.{refusals_spelled, lines_behind, lines_of_message}
-use Rattle.bor_wire.specs.Spelling.Spell.{Spelled, Spells, asked, spell, spelling, asked_behind}
+use Rattle.bor_wire.specs.declared.spelling.asking.Asking.{Asking}
+use Rattle.bor_wire.specs.Spelling.Spell.{RefusesAs, Spelled, Spells, SpellsAs, asked, asked_view, spell, spelling, asked_behind}
+use Rattle.bor_wire.specs.Spelling.Steps.{FindsStated}
 
 -- ---- the whole table, from its two parts
 
@@ -62,3 +67,22 @@ what_follows input more spelled ne s =
     let is : spelled ≡ (read >>= spell) = s.2 ∙ spelling_is input s.0 in
     let there : IsMessage (input ++ more) read = message_follows input more read (λ cut. ne (is ∙ ap (λ m. m >>= spell) cut)) (s.0, s.1, refl) in
     subst (Spells (input ++ more)) (sym is) (message_spelled (input ++ more) read there)
+
+-- what bytes say of a whole input, as those that were read of it, they say of what it spells
+pub says_spells : (bytes input : List ℕ) (spelled : Spelled) → SaysAll bytes input → Spells bytes spelled → Spells input spelled
+says_spells bytes input spelled says s =
+    let read : Result Message Refusal = message_read bytes s.0 in
+    subst (Spells input) (sym (s.2 ∙ spelling_is bytes s.0)) (message_spelled input read (says read (s.0, s.1, refl)))
+
+-- ---- what is found of a whole input
+
+pub refuses_as : (input : List ℕ) (fault : WireFault) → IsRefusedAs input fault → RefusesAs input fault
+refuses_as input (Refused why) h = message_spelled input (Err why) h
+refuses_as input Read h = h
+refuses_as input Memory h = tt
+
+pub spells_as : (input : List ℕ) (m : Message) (result : Result Asking WireFault) → IsMessage input (Ok m) → FindsStated asked_view result (spell m) → SpellsAs input result
+spells_as input m (Ok asking) is h = subst (Spells input) h (message_spelled input (Ok m) is)
+spells_as input m (Err (Refused why)) is h = subst (Spells input) h (message_spelled input (Ok m) is)
+spells_as input m (Err Read) is h = absurd h
+spells_as input m (Err Memory) is h = tt

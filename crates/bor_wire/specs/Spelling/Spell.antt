@@ -1,10 +1,13 @@
 -- The request that a whole input spells, with a token, or the first refusal.
-use Rattle.std.specs.Prelude.{◌≡◌, ℕ, ℤ, pos, List, [], drop, Option, Some, None, Result, unwrap_or}
+use Rattle.std.specs.Prelude.{◌≡◌, ℕ, ℤ, pos, List, [], drop, Option, Some, None, Result, Ok, Err}
+use Rattle.std.specs.Prelude.{unwrap_or, ⊤}
 use Rattle.bor_terms.specs.Tables.{outcome}
 use Rattle.bor_desk.specs.declared.request.Request.{Request}
 use Rattle.bor_desk.specs.declared.request.Request.TheVariants as ask
 use Rattle.bor_desk.specs.Runs.{Asked}
 use Rattle.bor_http.specs.declared.incoming.fault.Refusal.{Refusal}
+use Rattle.bor_http.specs.declared.incoming.fault.WireFault.{WireFault}
+use Rattle.bor_http.specs.declared.incoming.fault.WireFault.TheVariants.{Refused, Read, Memory}
 use Rattle.bor_http.specs.Incoming.Message.{Parts, Message, IsTakenApart}
 use Rattle.bor_http.specs.declared.routes.route.Route.{Route}
 use Rattle.bor_http.specs.declared.routes.route.Route.TheVariants as routes
@@ -91,3 +94,16 @@ Spells input spelled =
 -- a request that was read, without where it lies
 abbrev pub asked_view : Asking → Asked
 asked_view a = record { token = a.token; request = a.request }
+
+-- ---- for clauses of private functions alone
+
+-- the input is refused so; or memory ran out, and no reader was asked
+abbrev pub RefusesAs : List ℕ → WireFault → Type 0
+RefusesAs input (Refused why) = Spells input (Err why)
+RefusesAs input Read = ⊥
+RefusesAs input Memory = ⊤
+
+-- the whole input spells this request, or is refused so, or memory ran out
+abbrev pub SpellsAs : List ℕ → Result Asking WireFault → Type 0
+SpellsAs input (Ok asking) = Spells input (Ok (asked_view asking))
+SpellsAs input (Err fault) = RefusesAs input fault

@@ -1,5 +1,5 @@
 //! The request of a message, and the token of whoever asks.
-ghost use Rattle.bor_wire.specs.Spelling.Spell.{asked_view, spell};
+ghost use Rattle.bor_wire.specs.Spelling.Spell.{SpellsAs, asked_view, spell};
 ghost use Rattle.bor_wire.specs.Spelling.Query.{pair_texts};
 ghost use Rattle.bor_wire.specs.Spelling.Steps.{FindsStated, enrolment_by_steps, identifier_by_steps, lodging_by_steps, node_by_steps, renewal_by_steps, request_by_steps, snapshot_by_steps};
 
@@ -10,7 +10,7 @@ use crate::spelling::token::{new_token, token_at};
 use bods_read::Identifier;
 use bor_chains::Node;
 use bor_desk::Request;
-use bor_http::incoming::{Name, RawRequest, Refusal, WireFault};
+use bor_http::incoming::{Name, RawRequest, Refusal, WireFault, message_in};
 use bor_http::routes::{Paths, Route, route_at};
 use bor_terms::{Listed, Token};
 use std::alloc::Global;
@@ -99,7 +99,7 @@ fn renewal_for(alloc: Global, path: &[u8], body: &[u8]) -> Result<Request, WireF
 
 // The request that a route asks for, from the path, the query and the body.
 #[tactic(auto, unfolding(crate::specs::Spelling::Steps::request_by_steps))]
-fn request_for(alloc: Global, route: Route, raw: &RawRequest) -> Result<Request, WireFault>
+fn request_for(alloc: Global, route: Route, raw: &RawRequest<'_>) -> Result<Request, WireFault>
     ensures { FindsStated (λ request. request) result (request_by_steps route raw.now) }
 {
     let (path, query) = split_at_first(raw.target(), b'?');
@@ -139,7 +139,7 @@ fn request_for(alloc: Global, route: Route, raw: &RawRequest) -> Result<Request,
 /// The request that a message spells, with the token of whoever asks, or the first refusal of those
 /// that are about a path, a method, a token and names. Want of memory is answered where it is met;
 /// the reader is not asked, so [`WireFault::Read`] is never answered.
-pub fn parse(alloc: Global, raw: &RawRequest) -> Result<Asking, WireFault>
+pub fn parse(alloc: Global, raw: &RawRequest<'_>) -> Result<Asking, WireFault>
     ensures { FindsStated asked_view result (spell raw.now) }
 {
     parse_by(alloc, &Paths::new(alloc)?, raw)
@@ -148,7 +148,7 @@ pub fn parse(alloc: Global, raw: &RawRequest) -> Result<Asking, WireFault>
 /// The request that a message spells, as [`parse`] gives it, by paths that were made before: for
 /// whoever has many requests.
 #[tactic(auto, using(crate::proofs::OnSpelling::Stepwise::stepwise), unfolding(crate::specs::Spelling::Steps::spell_by_steps))]
-pub fn parse_by(alloc: Global, paths: &Paths, raw: &RawRequest) -> Result<Asking, WireFault>
+pub fn parse_by(alloc: Global, paths: &Paths, raw: &RawRequest<'_>) -> Result<Asking, WireFault>
     ensures { FindsStated asked_view result (spell raw.now) }
 {
     let (path, _) = split_at_first(raw.target(), b'?');
@@ -159,4 +159,13 @@ pub fn parse_by(alloc: Global, paths: &Paths, raw: &RawRequest) -> Result<Asking
     let token = token_at(alloc, raw)?;
     let request = request_for(alloc, route, raw)?;
     Ok(Asking { token, request })
+}
+
+/// The request that a whole input spells, with the token of whoever asks, or the first refusal of
+/// all; by paths that were made before.
+pub(crate) fn spelled(alloc: Global, paths: &Paths, input: &[u8]) -> Result<Asking, WireFault>
+    ensures { SpellsAs input.now result }
+{
+    let raw = message_in(alloc, input)?;
+    parse_by(alloc, paths, &raw)
 }

@@ -2,7 +2,7 @@
 //!
 //! ```
 //! let input = b"GET /filings HTTP/1.1\r\nAuthorization: Bearer alder-token-000001\r\n\r\n";
-//! let request = read_request(alloc, &mut Counted::new(input.as_slice()))?;
+//! let request = message_in(alloc, input)?;
 //! let asking = parse(alloc, &request)?;
 //! assert!(rt; asking.token.as_str() == "alder-token-000001");
 //! assert!(rt; matches!(asking.request, Request::Filings));
@@ -18,5 +18,6 @@ mod query;
 mod target;
 mod token;
 
+pub(crate) use asking::spelled;
 pub use asking::{Asking, parse, parse_by};
 pub use bor_http::routes::Paths;

@@ -50,7 +50,7 @@ fn bearer_token(alloc: Global, value: &[u8]) -> Result<Token, WireFault>
 
 /// The token of whoever asks, from the one `Authorization` field (RFC 9110, 11.6.2).
 #[tactic(auto, unfolding(crate::specs::Spelling::Parts::token))]
-pub(crate) fn token_at(alloc: Global, raw: &RawRequest) -> Result<Token, WireFault>
+pub(crate) fn token_at(alloc: Global, raw: &RawRequest<'_>) -> Result<Token, WireFault>
     ensures { FindsStated (λ token. token) result
         (or_refuse NoToken (part.token raw.now.parts.fields)) }
 {

@@ -1,9 +1,13 @@
-use Rattle.bor_wire.proofs.Exchanged.{written}
-use Rattle.bor_wire.specs.Sent.{bytes_sent, status_sent}
+use Rattle.bor_wire.specs.Sent.{Unavailable}
+use Rattle.bor_wire.proofs.Exchanged.{by_outcome, unread_answered}
 use Rattle.bor_wire.proofs.outcome.exchange.Goals as goal
+
+pub returns-in_default-clause-answers : goal.returns-in_default-clause-answers
+returns-in_default-clause-answers g c =
+    by_outcome g.K.Keep.meaning c.args.keep.now c.args.keep.now c.write_reply-in_default.result (g.R.Read.remaining c.args.reader.now.inner) _ _ Unavailable
+    (unread_answered g.K.Keep.meaning c.args.keep.now (g.R.Read.remaining c.args.reader.now.inner)) (rw c.unavailable.ensures at c.write_reply-in_default.ensures.written)
 
 pub returns-in-Some-clause-answers : goal.returns-in-Some-clause-answers
 returns-in-Some-clause-answers g c =
-    let reply = c.in-Some.response.reply in
-    written g.K.Keep.meaning c.args.keep.now c.read_reply.new.keep (g.R.Read.remaining c.args.reader.now.inner) c.write_reply-in-Some.result (status_sent reply) (bytes_sent reply) _ _
-    c.write_reply-in-Some.ensures.written (rw c.in-Some.is at c.read_reply.ensures.answers)
+    by_outcome g.K.Keep.meaning c.args.keep.now c.read_reply.new.keep c.write_reply-in-Some.result (g.R.Read.remaining c.args.reader.now.inner) _ _ c.in-Some.reply
+    (rw c.in-Some.is at c.read_reply.ensures.answers) c.write_reply-in-Some.ensures.written

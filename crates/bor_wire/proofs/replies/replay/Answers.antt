@@ -17,7 +17,7 @@ loop-input-preserved g c =
       turns =
           rw (c.push_reserved.ensures.items, more, ← c.input-item.is, ← c.deref.ensures.value)
           (in_turn_more g.K.Keep.meaning c.args.keep.now c.loop-input.keep c.respond-reply.new.keep (map (λ v. v.items) (take i inputs)) c.loop-input.replies.items c.deref.result.now
-          c.respond-reply.result.reply inv.turns c.respond-reply.ensures.status c.respond-reply.ensures.answers);
+          c.respond-reply.result.reply inv.turns c.respond-reply.ensures.answers);
     }
 
 pub returns-clause-began : goal.returns-clause-began
@@ -32,7 +32,7 @@ pub returns-clause-spelled : goal.returns-clause-spelled
 returns-clause-spelled g c =
     let le : length c.args.inputs.now ≤ c.loop-input.input-index = omega arith in
     let turns = rw (take_all c.loop-input.input-index c.args.inputs.now le) at c.loop-input.invariant.turns in
-    turns_spelled (map (λ v. v.items) c.args.inputs.now) c.loop-input.replies.items turns.exchanges turns.turns
+    turns_spelled g.K.Keep.meaning c.args.keep.now c.loop-input.keep (map (λ v. v.items) c.args.inputs.now) c.loop-input.replies.items turns
 
 pub returns-clause-run : goal.returns-clause-run
 returns-clause-run g c =

@@ -1,4 +1,4 @@
-use Rattle.std.proofs.Common.{◌∷◌, [], Some, inl, refl}
+use Rattle.std.proofs.Common.{◌∷◌, [], inl, refl}
 use Rattle.bor_wire.proofs.Exchanged.{unasked}
 use Rattle.bor_program.specs.Connections.Serving.{answer_of}
 use Rattle.bor_program.proofs.OnConnections.Phases.{answer_step}
@@ -15,4 +15,4 @@ pub returns-in-Unfit-clause-step : goal.returns-in-Unfit-clause-step
 returns-in-Unfit-clause-step g c =
     let w = c.new-writing.result in
     answer_step _ _ c.args.keep.now c.args.keep.now w.request.value.items w.reply
-    (answer_of w.request.value.items w.reply ∷ []) _ _ refl (rw (c.new-writing.ensures.reply, c.unavailable.ensures) (unasked g.K.Keep.meaning c.args.keep.now (Some w.request.value.items))) (inl refl)
+    (answer_of w.request.value.items w.reply ∷ []) _ _ refl (rw (c.new-writing.ensures.reply, c.unavailable.ensures) (unasked g.K.Keep.meaning c.args.keep.now w.request.value.items)) (inl refl)

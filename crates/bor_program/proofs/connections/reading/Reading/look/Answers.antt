@@ -1,6 +1,6 @@
 use Rattle.std.proofs.Common.{◌<◌, arith, length}
 use Rattle.bor_http.specs.Incoming.Progress.{needs}
-use Rattle.bor_program.proofs.OnConnections.Streams.{not_reached}
+use Rattle.bor_http.proofs.OnIncoming.Gathered.{not_reached}
 use Rattle.bor_program.proofs.connections.reading.Reading.look.Goals as goal
 
 pub returns-else-is_whole-clause-held : goal.returns-else-is_whole-clause-held

@@ -1,6 +1,6 @@
 use Rattle.std.proofs.Common.{arith, length, ap, length-append}
 use Rattle.bor_http.proofs.OnIncoming.ProgressLemmas.{progress_kept}
-use Rattle.bor_program.proofs.OnConnections.Bounds.{needs_within}
+use Rattle.bor_http.proofs.OnIncoming.Bounds.{needs_within}
 use Rattle.bor_program.proofs.OnConnections.Streams.{came_more}
 use Rattle.bor_program.proofs.connections.reading.Reading.read.Goals as goal
 

@@ -1,6 +1,6 @@
 use Rattle.std.proofs.Common.{◌<◌, arith, refl, length}
 use Rattle.bor_http.proofs.OnIncoming.PartsLemmas.{no_overflow, not_whole}
-use Rattle.bor_http.proofs.incoming.request.parse_head.Goals as goal
+use Rattle.bor_http.proofs.incoming.message.parse_head.Goals as goal
 
 pub returns-then-found-head-clause-parts : goal.returns-then-found-head-clause-parts
 returns-then-found-head-clause-parts c =
