@@ -1,7 +1,7 @@
 -- One read after another, and what is made of what was read.
 use Rattle.std.proofs.Common.{◌≡◌, sym, subst, Result, Ok, Err, IfOk, MatchResult}
 use Rattle.std.specs.Prelude.{IsErrAnd}
-use Rattle.bor_records.specs.Reading.{ReadsSo, IsReading, Reading}
+use Rattle.bor_records.specs.Reading.{ReadsSo, ReadsAsOne, Reading}
 
 -- an error says nothing of it
 not_answered : {X Y : Type 0} (P : Type 0) (Q : Y → Type 0) (result : Result X Y) → IsErrAnd result Q → IfOk result (λ x. P)
@@ -22,7 +22,7 @@ after (Err e) so a = tt
 
 module _ {S V F : Type 0} {r : Reading S V F} where
   -- without a read
-  pub unread : {X : Type 0} {s : S} {x : X} {P : V → X → Type 0} → IsReading r → ((v : V) → P v x) → ReadsSo r s s (Ok x) P
+  pub unread : {X : Type 0} {s : S} {x : X} {P : V → X → Type 0} → ReadsAsOne r → ((v : V) → P v x) → ReadsSo r s s (Ok x) P
   unread {X} {s} on so = record { leads = on.none s; lasts = on.lasts_none s; answer = λ clean v shown. so v }
 
   -- another value is made of what was read
@@ -34,7 +34,7 @@ module _ {S V F : Type 0} {r : Reading S V F} where
   read_as {X} {old} {new} {result} {P} {Q} was so = record { leads = was.leads; lasts = was.lasts; answer = λ clean v shown. answered r.may_tell result (P v) (Q v) (so v) (was.answer clean v shown) }
 
   -- what was read first is so too
-  pub read_next : {X Y : Type 0} {old mid new : S} {x : X} {result : Result Y F} {P : V → X → Type 0} {Q : V → Y → Type 0} → IsReading r → ReadsSo r old mid (Ok x) P → ReadsSo r mid new result Q → ReadsSo r old new result (λ v y. P v x × Q v y)
+  pub read_next : {X Y : Type 0} {old mid new : S} {x : X} {result : Result Y F} {P : V → X → Type 0} {Q : V → Y → Type 0} → ReadsAsOne r → ReadsSo r old mid (Ok x) P → ReadsSo r mid new result Q → ReadsSo r old new result (λ v y. P v x × Q v y)
   read_next {X} {Y} {old} {mid} {new} {x} {result} {P} {Q} on first second = record {
     leads = on.more old mid new first.leads second.leads;
     lasts = after result (on.lasts_more old mid new second.leads first.lasts) second.lasts;

@@ -15,7 +15,7 @@ pub record Reading (S V F : Type 0) : Type 1 where
   pub may_tell : F → Type 0
 
 -- Reads one after another are as one. They leave what is shown, and what ends clean began clean.
-pub record IsReading {S V F : Type 0} (reading : Reading S V F) : Type 0 where
+pub record ReadsAsOne {S V F : Type 0} (reading : Reading S V F) : Type 0 where
   pub none : (a : S) → reading.leads a a
   pub more : (a b c : S) → reading.leads a b → reading.leads b c → reading.leads a c
   pub lasts_none : (a : S) → reading.lasts a a

@@ -2,7 +2,7 @@
 
 ghost use Rattle.std.specs.Prelude.{◌≡◌};
 ghost use Rattle.std.specs.declared.alloc.AllocError.{AllocError};
-ghost use Rattle.bor_records.specs.Reading.{ReadsSo, IsReading, Reading};
+ghost use Rattle.bor_records.specs.Reading.{ReadsSo, ReadsAsOne, Reading};
 ghost use Rattle.bor_records.specs.Links.Answers.{HaveSigned};
 ghost use Rattle.bor_records.specs.Links.Shown.{Shown, listed_at};
 
@@ -46,7 +46,7 @@ pub trait Records {
             HaveSigned (shown m) sign.now (Self.Nodes.items nodes)) };
 
     /// Reads one after another are as one.
-    ghost goes_on: { IsReading reading };
+    ghost goes_on: { ReadsAsOne reading };
 
     /// A read may fail for want of memory.
     ghost tells_memory: { (error : AllocError) (fault : Self.Fault)
