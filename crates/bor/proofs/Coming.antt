@@ -24,7 +24,7 @@ not_new came is new = let same : Found ≡ New = sym is ∙ new in cc
 pub shows_still : (r : Register) (old mid : State) → mid.committed ≡ old.committed → ShowsIn r old → ShowsIn r mid
 shows_still r old mid kept shown = record { has = subst (Has (contents r)) (sym kept) shown.has; stored = shown.stored }
 
-module _ {K E W : Type 0} (meaning : Meaning K Register W StoreFault) (registrar : List ℕ) (day : ℤ) (old mid : State) (was_clean : IsClean mid → IsClean old) (kept : IsClean mid → mid.committed ≡ old.committed) where
+module _ {K E W : Type 0} (meaning : Meaning K Register W StoreFault) (registrar : List ℕ) (day : ℤ) (old mid : State) (was_clean : IsClean mid → IsClean old) where
   -- the one that is set up, where none was shown
   pub made_open : (IsClean mid → (r : Register) → ShowsIn r old → ⊥) → (result : Result (Opened K) E) → IfOk result (λ o. o.origin ≡ New) → IfOk result (λ o. meaning.is_clean o.register → IsClean mid)
       → IfOk result (λ o. meaning.is_clean o.register → meaning.shows o.register (empty_register registrar day))

@@ -14,4 +14,9 @@ returns-in-Ok g c = record {
 }
 
 pub returns-in-Err-NoRegister : goal.returns-in-Err-NoRegister
-returns-in-Err-NoRegister g c = ?
+returns-in-Err-NoRegister g c =
+    let old = state g.S.Store c.args.conn in
+    let mid = state g.S.Store c.in-Err-NoRegister.conn in
+    let reads = c.in-Err-NoRegister.ensures.reads in
+    let none : IsClean mid → (r : Register) → ShowsIn r old → ⊥ = λ clean r shown. not_failed _ c.in-Err-NoRegister.fault-is (c.in-Err-NoRegister.ensures.shown clean.0 (reads.began clean).1 r shown) in
+    made_open _ _ _ old mid reads.began none c.set_up_on.result c.set_up_on.ensures.origin c.set_up_on.ensures.began c.set_up_on.ensures.made
