@@ -4,7 +4,6 @@ use Rattle.sqlite.specs.State.{State}
 use Rattle.bor_register.specs.Register.{Register}
 use Rattle.bor_store_sql.specs.Rows.Encoding.{contents}
 use Rattle.bor_store_sql.specs.Shown.{Has, ShowsIn}
-use Rattle.bor_store.specs.declared.open_fault.OpenFault.TheVariants as faults
 use Rattle.bor_program.specs.declared.host.Origin.{Origin}
 use Rattle.bor_program.specs.declared.host.Origin.TheVariants.{Found, New}
 

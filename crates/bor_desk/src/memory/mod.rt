@@ -11,8 +11,8 @@
 //! ```
 //!
 //! Maps beside the filings lead from a record, an identifier, a subject or a sign to the statements
-//! that are asked for. Where memory was wanting for the maps, the statements are looked at one by
-//! one, until an open record, a node or links are asked for: the maps are made again then.
+//! that are asked for. Where memory was wanting for the maps, they are made again when they are asked
+//! for next.
 
 mod index;
 mod list_keep;

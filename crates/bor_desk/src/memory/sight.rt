@@ -292,8 +292,8 @@ fn is_named(node: &Node, agent: &AgentName, declaration: &Ident, rec: &Ident) ->
     node.agent == *agent && node.declaration == *declaration && node.rec == *rec
 }
 
-// The link into an open entity that an agent's statement makes. The texts of the entity, which are
-// those of the statement, are at hand.
+// The link into an open entity that an agent's statement makes. It shares the entity's texts, which
+// are those of the statement.
 fn link_stated(
     sight: &Sight,
     node: &Node,
