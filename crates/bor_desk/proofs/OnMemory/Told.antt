@@ -1,7 +1,7 @@
 -- Facts that follow from an answer.
 use Rattle.std.proofs.Common.{◌≡◌, ℕ, Result, Ok, Err, IfOk, refl, ap, sym, subst}
-use Rattle.std.specs.Prelude.{IfErr, IfSome, MatchResult, OnErr, OnOk}
-use Rattle.std.specs.Result.{result_map_both, result_ok}
+use Rattle.std.specs.Prelude.{IfErr, MatchResult, OnErr, OnOk}
+use Rattle.std.specs.Result.{result_map_both}
 use Rattle.bor_records.specs.Promises.{counted}
 use Rattle.bor_register.specs.declared.fault.StoreFault.{StoreFault}
 use Rattle.bor_register.specs.declared.fault.StoreFault.TheVariants.{Memory}
@@ -17,10 +17,6 @@ told_only (Err e) P Q h = tt
 pub told_always : {T F : Type 0} {P : Type 0} (r : Result T F) → P → IfOk r (λ x. P)
 told_always (Ok x) h = h
 told_always (Err e) h = tt
-
-pub ok_then : {T F : Type 0} (r : Result T F) (P Q : T → Type 0) → ((x : T) → P x → Q x) → IfOk r P → IfSome (result_ok r) Q
-ok_then (Ok x) P Q f h = f x h
-ok_then (Err e) P Q f h = tt
 
 -- what holds whether or not a call failed
 pub either_way : {T F : Type 0} (r : Result T F) (P Q R : Type 0) → OnOk r P → OnErr r Q → (P → R) → (Q → R) → R

@@ -1,6 +1,6 @@
 //! Which filing, and where a statement stands.
 
-ghost use Rattle.std.specs.Prelude.{◌≡◌, not};
+ghost use Rattle.std.specs.Prelude.{◌≡◌};
 ghost use Rattle.bor_store_sql.specs.Rows.Placed.{same_place};
 
 use bor_terms::AgentName;
@@ -44,12 +44,5 @@ impl At {
         ensures { result ≡ same_place self.now other.now }
     {
         self.agent == other.agent && self.filing == other.filing && self.place == other.place
-    }
-
-    /// Whether they differ.
-    pub fn is_not(&self, other: &At) -> bool
-        ensures { result ≡ not (same_place self.now other.now) }
-    {
-        !self.is(other)
     }
 }
