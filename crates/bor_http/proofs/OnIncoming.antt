@@ -1,7 +1,7 @@
+pub mod Steps
 pub mod BodyLines
 pub mod Bounds
 pub mod ByTable
-pub mod FieldLemmas
 pub mod Gathered
 pub mod HeadLemmas
 pub mod Laws

@@ -1,5 +1,6 @@
 pub mod OnLiterals
 pub mod Inserts
+pub mod Lines
 pub mod Rows
 pub mod Keys
 pub mod Utf8Bytes

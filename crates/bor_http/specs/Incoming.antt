@@ -7,3 +7,4 @@ pub mod Steps
 pub mod Progress
 pub mod Reading
 pub mod Laws
+pub mod Splitting

@@ -9,7 +9,6 @@ pub mod Reporting
 pub mod Deeds
 pub mod Hosting
 pub mod Performing
-pub mod Splitting
 pub mod Registrars
 pub mod Logging
 pub mod Connections

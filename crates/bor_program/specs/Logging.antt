@@ -8,10 +8,9 @@ use Rattle.bor_terms.specs.declared.agent_name.NameForm.{NameForm}
 use Rattle.bor_terms.specs.declared.text.Text.{Text}
 use Rattle.bor_register.specs.Register.{Register}
 use Rattle.bor_http.specs.declared.incoming.fault.Path.{Path}
-use Rattle.bor_http.specs.declared.incoming.fault.Path.TheVariants as paths
-use Rattle.bor_http.specs.declared.routes.route.Route.{Route}
-use Rattle.bor_http.specs.declared.routes.route.Route.TheVariants as asks
-use Rattle.bor_http.specs.Routes.Routes.{path_word, route_at}
+use Rattle.bor_http.specs.Incoming.Splitting.{before_byte, behind_byte}
+use Rattle.bor_http.specs.Incoming.Words.{path_word}
+use Rattle.bor_http.specs.Routes.Routes.{route_line, route_at}
 use Rattle.bor_wire.specs.Spelling.Parts.{path_spelled}
 use Rattle.bor_wire.specs.Exchanges.{NamesWhoAsks}
 use Rattle.bor_wire.specs.Sent.{Sent, bytes_sent, status_sent}
@@ -20,7 +19,6 @@ use Rattle.bor_program.specs.declared.log.Asked.TheVariants as asked
 use Rattle.bor_program.specs.declared.log.Entry.{Entry}
 use Rattle.bor_program.specs.declared.log.Moment.{Moment}
 use Rattle.bor_program.specs.declared.log.Note.{Note}
-use Rattle.bor_program.specs.Splitting.{before_byte, behind_byte}
 
 -- ---- the request
 
@@ -37,49 +35,18 @@ asked_of input =
     asked_at (path_spelled (before_byte 63 (before_byte 32 (behind_byte 32 first))))
     (before_byte 32 first)
 
--- the path of a route, and its method
-abbrev pub route_path : Route → Path
-route_path asks.Lodge = paths.Filing
-route_path asks.Withdraw = paths.Filing
-route_path asks.Filings = paths.Filings
-route_path asks.File = paths.File
-route_path asks.Published = paths.Published
-route_path asks.Snapshot = paths.Snapshot
-route_path asks.Chains = paths.Chains
-route_path asks.Evidence = paths.Evidence
-route_path asks.Entities = paths.Entities
-route_path asks.Day = paths.Day
-route_path asks.Enrol = paths.Agents
-route_path asks.Renew = paths.Agent
-route_path asks.Register = paths.Register
-
-abbrev pub route_method : Route → List ℕ
-route_method asks.Lodge = codes "PUT"
-route_method asks.Withdraw = codes "DELETE"
-route_method asks.Filings = codes "GET"
-route_method asks.File = codes "GET"
-route_method asks.Published = codes "GET"
-route_method asks.Snapshot = codes "GET"
-route_method asks.Chains = codes "GET"
-route_method asks.Evidence = codes "GET"
-route_method asks.Entities = codes "GET"
-route_method asks.Day = codes "POST"
-route_method asks.Enrol = codes "POST"
-route_method asks.Renew = codes "PUT"
-route_method asks.Register = codes "GET"
-
 -- a hyphen stands for a value that isn't shown
 abbrev pub untold : List ℕ
 untold = codes "-"
 
 abbrev pub method_word : Asked → List ℕ
-method_word (asked.Route route) = route_method route
+method_word (asked.Route route) = (route_line route).method
 method_word (asked.Path path) = untold
 method_word asked.Nothing = untold
 
 -- the path as the table of routes writes it, with {key} for a key and {name} for a name
 abbrev pub asked_path_word : Asked → List ℕ
-asked_path_word (asked.Route route) = path_word (route_path route)
+asked_path_word (asked.Route route) = path_word (route_line route).path
 asked_path_word (asked.Path path) = path_word path
 asked_path_word asked.Nothing = untold
 

@@ -9,7 +9,7 @@ use Rattle.bor_words.specs.declared.registrar.RegistrarSource.TheVariants as sou
 use Rattle.bor_words.specs.declared.source.Source.TheVariants.{File}
 use Rattle.bor_program.specs.declared.failure.Failure.{Failure}
 use Rattle.bor_program.specs.declared.failure.Failure.TheVariants.{Unreadable, NoToken, Memory}
-use Rattle.bor_program.specs.Splitting.{before_byte}
+use Rattle.bor_http.specs.Incoming.Splitting.{before_byte}
 
 -- the first line: what stands before the first line feed or carriage return
 abbrev pub first_line : List ℕ → List ℕ

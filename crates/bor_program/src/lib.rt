@@ -27,7 +27,6 @@ mod program;
 mod registrar;
 mod report;
 mod serve;
-mod split;
 mod status;
 
 pub use bor_wire::{Reply, replay};

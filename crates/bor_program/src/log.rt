@@ -7,17 +7,15 @@
 //!
 //! No field of an [`Entry`] can hold a token, a key, a query or a body, and none of a [`Note`].
 
-ghost use Rattle.std.specs.Prelude.{◌≡◌, ◌↔◌, ◌+◌, ◌/◌, ◌%◌, ◌≤◌, pos, IfOk, IfSome, IsSome, Some, length};
-ghost use Rattle.bor_http.specs.Routes.Routes.{path_word, route_at as route_in};
+ghost use Rattle.std.specs.Prelude.{◌≡◌, ◌↔◌, ◌+◌, ◌/◌, ◌%◌, ◌≤◌, pos, IfOk, IfSome, IsSome, length};
 ghost use Rattle.bor_wire.specs.Spelling.Parts.{path_spelled};
 ghost use Rattle.bor_wire.specs.Sent.{bytes_sent, status_sent};
-ghost use Rattle.bor_program.specs.Logging.{agent_shown, asked_at, asked_of, asked_path_word, asked_text, clock_text, entry_line, method_word, moment_text, numbers_text, route_method, route_path};
+ghost use Rattle.bor_program.specs.Logging.{agent_shown, asked_at, asked_of, asked_path_word, asked_text, clock_text, entry_line, method_word, moment_text, numbers_text};
 ghost use Rattle.bor_program.specs.Streams.{AppendsPart};
 
 use crate::output::write_part;
-use crate::split::split_at;
-use bor_http::incoming::Path;
-use bor_http::routes::{Paths, Route, route_at};
+use bor_http::incoming::{Path, split_at_first};
+use bor_http::routes::{Paths, Route, line_of, route_at};
 use bor_terms::{AgentName, Day};
 use bor_wire::Reply;
 use itoa::Buffer;
@@ -170,54 +168,11 @@ fn asked_at(path: Option<Path>, method: &[u8]) -> Asked
 pub fn asked_by(paths: &Paths, input: &[u8]) -> Asked
     ensures { result ≡ asked_of input.now }
 {
-    let (line, _) = split_at(b'\n', input);
-    let (method, rest) = split_at(b' ', line);
-    let (target, _) = split_at(b' ', rest);
-    let (path, _) = split_at(b'?', target);
+    let (line, _) = split_at_first(input, b'\n');
+    let (method, rest) = split_at_first(line, b' ');
+    let (target, _) = split_at_first(rest, b' ');
+    let (path, _) = split_at_first(target, b'?');
     asked_at(path_found(paths, path), method)
-}
-
-// A route's path and method: the one line of the table of routes that asks for it.
-fn line_of(route: Route) -> (Path, &'static str)
-    ensures path { result.0 ≡ route_path route }
-    ensures method { result.1.now ≡ route_method route }
-    ensures route { route_in result.0 result.1.now ≡ Some route }
-{
-    match route {
-        Route::Lodge => (Path::Filing, "PUT"),
-        Route::Withdraw => (Path::Filing, "DELETE"),
-        Route::Filings => (Path::Filings, "GET"),
-        Route::File => (Path::File, "GET"),
-        Route::Published => (Path::Published, "GET"),
-        Route::Snapshot => (Path::Snapshot, "GET"),
-        Route::Chains => (Path::Chains, "GET"),
-        Route::Evidence => (Path::Evidence, "GET"),
-        Route::Entities => (Path::Entities, "GET"),
-        Route::Day => (Path::Day, "POST"),
-        Route::Enrol => (Path::Agents, "POST"),
-        Route::Renew => (Path::Agent, "PUT"),
-        Route::Register => (Path::Register, "GET"),
-    }
-}
-
-// A path as it is written, with {key} for a key and {name} for a name.
-fn path_text(path: Path) -> &'static str
-    ensures { result.now ≡ path_word path }
-{
-    match path {
-        Path::Filing => "/filings/{key}",
-        Path::Filings => "/filings",
-        Path::File => "/filings/{key}/file",
-        Path::Published => "/published",
-        Path::Snapshot => "/snapshot",
-        Path::Chains => "/chains",
-        Path::Evidence => "/evidence",
-        Path::Entities => "/entities",
-        Path::Day => "/day",
-        Path::Agents => "/agents",
-        Path::Agent => "/agents/{name}",
-        Path::Register => "/register",
-    }
 }
 
 impl Asked {
@@ -229,9 +184,9 @@ impl Asked {
         match self {
             Asked::Route(route) => {
                 let (path, method) = line_of(route);
-                (method, path_text(path))
+                (method, path.as_str())
             }
-            Asked::Path(path) => ("-", path_text(path)),
+            Asked::Path(path) => ("-", path.as_str()),
             Asked::Nothing => ("-", "-"),
         }
     }

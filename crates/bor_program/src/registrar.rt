@@ -8,7 +8,7 @@ ghost use Rattle.bor_program.specs.Registrars.{IsTokenOf, IsUntold, first_line, 
 
 use crate::failure::Failure;
 use crate::host::NamedFiles;
-use crate::split::split_at;
+use bor_http::incoming::split_at_first;
 use bor_terms::{Day, Token};
 use bor_words::{RegistrarSource, Source};
 use std::alloc::{AllocError, Global};
@@ -84,8 +84,8 @@ fn read_front<R: NamedFiles + AllocGlobal>(rt: &R, name: &str) -> io::Result<Vec
 fn first_line(bytes: &[u8]) -> &[u8]
     ensures { result.now ≡ first_line bytes.now }
 {
-    let (line, _) = split_at(b'\n', bytes);
-    let (line, _) = split_at(b'\r', line);
+    let (line, _) = split_at_first(bytes, b'\n');
+    let (line, _) = split_at_first(line, b'\r');
     line
 }
 

@@ -4,7 +4,7 @@ use crate::asking::{day, read};
 use crate::checks::{all_hold, holds};
 use bor_desk::operations::ListKeep;
 use bor_desk::{DeskReply, Request, answer};
-use bor_http::routes::{Paths, Route, allow_of, route_at};
+use bor_http::routes::{Paths, Route, allow_of, line_of, route_at};
 use bor_wire::rendering::{RESERVED, render_refusal};
 use bor_wire::{Counted, Outcome, Path, Refusal, exchange, message_in, parse, read_request};
 use bor_words::Command;
@@ -50,6 +50,7 @@ fn the_page_of_routes(rt: HostRuntime) {
     let told = [
         paths.find("/filings/f1") == Some(Path::Filing),
         route_at(Path::Filing, b"PUT") == Some(Route::Lodge),
+        line_of(Route::Lodge) == (Path::Filing, "PUT"),
         route_at(Path::Filing, b"GET").is_none(),
         allow_of(Path::Filing) == "DELETE, PUT",
     ];

@@ -1,6 +1,6 @@
 -- Laws of exchanges in turn.
 use Rattle.bor_register.specs.declared.fault.StoreFault.{StoreFault}
-use Rattle.std.proofs.Common.{◌≡◌, ℕ, List, [], ◌∷◌, ◌++◌, append_assoc, map, All, IsTrue, refl, sym, ap, subst, ◌∙◌}
+use Rattle.std.proofs.Common.{◌≡◌, inl, inr, ℕ, Option, List, [], ◌∷◌, ◌++◌, append_assoc, map, All, IsTrue, refl, sym, ap, subst, ◌∙◌}
 use Rattle.std.proofs.lemmas.List.{map-append}
 use Rattle.std.proofs.lemmas.List.Elements.{All-head, All-push, All-tail}
 use Rattle.bor_records.specs.Promises.{Meaning, Promised}
@@ -8,11 +8,13 @@ use Rattle.bor_register.specs.Register.{Register}
 use Rattle.bor_desk.specs.Operations.Legality.{IsLegal}
 use Rattle.bor_wire.specs.Spelling.Spell.{Spelled, Spells}
 use Rattle.bor_wire.specs.Sent.{Sent, Full, Unavailable, IfFull, bytes_sent}
-use Rattle.bor_wire.specs.Answering.{Responds}
+use Rattle.bor_wire.specs.declared.outcome.Outcome.{Outcome}
+use Rattle.bor_wire.specs.declared.outcome.Outcome.TheVariants.{Replied, ReadFailed, WriteFailed}
+use Rattle.bor_wire.specs.Answering.{IsAnsweredOver, Responds}
 use Rattle.bor_wire.specs.Replays.{IsReplayed, IsRunOver}
 use Rattle.bor_wire.specs.Runs.{AreSpelled, full, served}
 use Rattle.bor_wire.specs.Sequences.{AreExchanged, AreSpelledBy, Exchanged, IsNext, IsRun, answered, bytes_in, is_answered, keep_left}
-use Rattle.bor_wire.specs.Turns.{AnswersAreRuns, AnswersClean, FrontsAreRuns, InTurn, IsRequestAnswered, IsTurn}
+use Rattle.bor_wire.specs.Turns.{AnswersAreRuns, AnswersClean, ExchangeIsATurn, FrontsAreRuns, InTurn, IsRequestAnswered, IsTurn, IsTurnOver}
 use Rattle.bor_wire.proofs.RunLaws.{spelled_once}
 use Rattle.bor_wire.proofs.SequenceLaws.{a_run, began, dropped, kept}
 
@@ -31,6 +33,27 @@ pub next : {K W : Type 0} (meaning : Meaning K Register W StoreFault) (old new :
     → IsNext meaning old (record { input = input; reply = reply; keep = new })
 next meaning old new input reply h = record { leaves = h.leaves; exchanged = λ r is clean legal. h.exchanged r is clean legal.names }
 
+pub turn : {K W : Type 0} (meaning : Meaning K Register W StoreFault) (old new : K) (input : List ℕ) (reply : Sent) → Responds meaning old new input reply
+    → IsTurn {K = K} (record { input = input; reply = reply; keep = new })
+turn meaning old new input reply h = record { told = h.told; spells = h.spells; refused = h.refused }
+
+turn_over : {K W : Type 0} (meaning : Meaning K Register W StoreFault) (old new : K) (outcome : Outcome) (known held holds : Option (List ℕ))
+    → IsAnsweredOver meaning old new outcome known held holds → IsTurnOver meaning old new outcome known held holds
+turn_over meaning old new outcome known held holds h = record {
+  one = record { input = h.input; reply = h.reply; keep = new };
+  all = h.all;
+  written = h.written;
+  left = refl;
+  turn = turn meaning old new h.input h.reply h.responds;
+  next = next meaning old new h.input h.reply h.responds;
+  answer_clean = h.responds.up;
+}
+
+pub a_turn : {K W : Type 0} (meaning : Meaning K Register W StoreFault) → ExchangeIsATurn meaning
+a_turn meaning old new (Replied status) known held holds h = inr (turn_over meaning old new (Replied status) known held holds h)
+a_turn meaning old new ReadFailed known held holds h = inl (refl, h.0)
+a_turn meaning old new (WriteFailed status) known held holds h = inr (turn_over meaning old new (WriteFailed status) known held holds h)
+
 pub in_turn_more : {K W : Type 0} (meaning : Meaning K Register W StoreFault) (old mid new : K) (inputs : List (List ℕ)) (replies : List Sent) (input : List ℕ) (reply : Sent)
     → InTurn meaning old mid inputs replies → Responds meaning mid new input reply → InTurn meaning old new (inputs ++ input ∷ []) (replies ++ reply ∷ [])
 in_turn_more {K} meaning old mid new inputs replies input reply h responds =
@@ -39,7 +62,7 @@ in_turn_more {K} meaning old mid new inputs replies input reply h responds =
       exchanges = h.exchanges ++ e ∷ [];
       inputs_are = map-append (λ (e : Exchanged K). e.input) h.exchanges (e ∷ []) ∙ ap (λ l. l ++ input ∷ []) h.inputs_are;
       replies_are = map-append (λ (e : Exchanged K). e.reply) h.exchanges (e ∷ []) ∙ ap (λ l. l ++ reply ∷ []) h.replies_are;
-      turns = All-push IsTurn h.exchanges e h.turns (record { told = responds.told; spells = responds.spells });
+      turns = All-push IsTurn h.exchanges e h.turns (turn meaning mid new input reply responds);
       each = exchanged_more meaning old h.exchanges e h.each (subst (λ k. IsNext meaning k e) (sym h.left) (next meaning mid new input reply responds));
       answer_clean = All-push (AnswersClean meaning) h.exchanges e h.answer_clean responds.up;
       left = left_more old h.exchanges e;

@@ -1,18 +1,26 @@
 -- The replies to a list of inputs, as exchanges in turn: with the keep after each.
 use Rattle.bor_register.specs.declared.fault.StoreFault.{StoreFault}
-use Rattle.std.specs.Prelude.{◌≡◌, ℕ, List, [], ◌∷◌, ◌++◌, map, All, Ok, IsTrue}
+use Rattle.std.specs.Prelude.{◌≡◌, ◌⊎◌, ℕ, List, [], ◌∷◌, ◌++◌, map, All, Option, IfSome, Ok, Err}
+use Rattle.std.specs.Prelude.{IsTrue}
 use Rattle.bor_records.specs.Promises.{Meaning, Promised}
 use Rattle.bor_register.specs.Register.{Register}
 use Rattle.bor_desk.specs.Operations.Legality.{IsLegal}
-use Rattle.bor_wire.specs.Sent.{Sent, IfFull, TellsStatus}
 use Rattle.bor_desk.specs.Runs.{Asked}
+use Rattle.bor_http.specs.declared.incoming.fault.Refusal.{Refusal}
+use Rattle.bor_wire.specs.declared.outcome.Outcome.{Outcome}
+use Rattle.bor_wire.specs.declared.outcome.Outcome.TheVariants.{ReadFailed}
 use Rattle.bor_wire.specs.Spelling.Spell.{Spelled, Spells}
-use Rattle.bor_wire.specs.Sequences.{AreExchanged, Exchanged, IsRun, is_answered, keep_left}
+use Rattle.bor_wire.specs.Sent.{Sent, IfFull, TellsStatus}
+use Rattle.bor_wire.specs.Exchanges.{IsRefusal, IsWritten}
+use Rattle.bor_wire.specs.Answering.{AnswersOne}
+use Rattle.bor_wire.specs.Sequences.{AreExchanged, Exchanged, IsNext, IsRun, is_answered, keep_left}
 
--- its reply begins with its status, and where it is whole the input spells something
+-- its reply begins with its status, where it is whole the input spells something, and an input that
+-- spells a refusal is answered by it, where the status isn't 503
 pub record IsTurn {K : Type 0} (e : Exchanged K) : Type 0 where
   pub told : TellsStatus e.reply
   pub spells : IfFull e.reply ((spelled : Spelled) × Spells e.input spelled)
+  pub refused : (why : Refusal) → Spells e.input (Err why) → IsRefusal e.reply why
 
 -- A request is answered with another status than 503 only where the keep is clean after it, if its
 -- store has returned what was written by then.
@@ -32,6 +40,27 @@ pub record InTurn {K W : Type 0} (meaning : Meaning K Register W StoreFault) (ol
   pub each : AreExchanged meaning old exchanges
   pub answer_clean : All (AnswersClean meaning) exchanges
   pub left : keep_left old exchanges ≡ new
+
+-- An exchange over a reader, which had the bytes `known`, and a writer, which held those of `held`
+-- before it and those of `holds` after it, is one of exchanges in turn: of all the bytes of the
+-- reader, and its reply was written.
+pub record IsTurnOver {K W : Type 0} (meaning : Meaning K Register W StoreFault) (old new : K)
+    (outcome : Outcome) (known held holds : Option (List ℕ)) : Type 0 where
+  pub one : Exchanged K
+  pub all : IfSome known (λ bytes. one.input ≡ bytes)
+  pub written : IsWritten outcome one.reply held holds
+  pub left : one.keep ≡ new
+  pub turn : IsTurn one
+  pub next : IsNext meaning old one
+  pub answer_clean : AnswersClean meaning one
+
+-- What `exchange` promises of an exchange says that it is such a one, or that its reader failed and
+-- left the keep.
+abbrev pub ExchangeIsATurn : {K W : Type 0} → Meaning K Register W StoreFault → Type 0
+ExchangeIsATurn {K} {W} meaning =
+    (old new : K) (outcome : Outcome) (known held holds : Option (List ℕ))
+    → AnswersOne meaning old new outcome known held holds
+    → ((outcome ≡ ReadFailed) × (new ≡ old)) ⊎ IsTurnOver meaning old new outcome known held holds
 
 -- Each front of exchanges in turn is a run, where the keep after it is clean: whatever becomes of
 -- the keep later on, as where its store fails.

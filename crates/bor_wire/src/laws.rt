@@ -9,7 +9,7 @@ ghost use Rattle.bor_wire.specs.ReportBytes.{BytesGiveEntities, BytesGiveEvidenc
 ghost use Rattle.bor_wire.specs.Restarts.{ExchangesCompose, FilingsFollowHistory, LivesKeepDraftsInvisible, RunsCompose};
 ghost use Rattle.bor_wire.specs.Sequences.{ExchangesAreARun};
 ghost use Rattle.bor_wire.specs.Stops.{AnswersLast, StopsLeaveRuns};
-ghost use Rattle.bor_wire.specs.Turns.{AnswersAreRuns, FrontsAreRuns};
+ghost use Rattle.bor_wire.specs.Turns.{AnswersAreRuns, ExchangeIsATurn, FrontsAreRuns};
 
 use bor_desk::operations::Keep;
 
@@ -92,10 +92,16 @@ pub fn nobodys_inputs()
 /// Exchanges one after the other, from a keep of a legal register, each as the contract of
 /// [`respond`](crate::respond) says, are a run over what their inputs spell: the replies are the
 /// run's, the register left is too, and each agent receives what it would alone. Those with status
-/// 503 have no part in it. By its contract [`exchange`](crate::exchange) is such a one, unless its
-/// reader failed, which leaves the keep.
+/// 503 have no part in it.
 pub fn exchanges_are_a_run<K: Keep>()
     ensures { ExchangesAreARun K.meaning }
+{}
+
+/// By its contract an [`exchange`](crate::exchange) is one of exchanges one after the other, of all
+/// the bytes that its reader had, unless the reader failed, which leaves the keep. So the laws of
+/// exchanges hold of it.
+pub fn an_exchange_is_a_turn<K: Keep>()
+    ensures { ExchangeIsATurn K.meaning }
 {}
 
 /// A front of exchanges one after the other is a run too, where the keep that it leaves is clean.

@@ -1,9 +1,11 @@
 //! One exchange over a reader and a writer, and how it ends.
 
-ghost use Rattle.std.specs.Prelude.{◌≡◌, false};
+ghost use Rattle.std.specs.Prelude.{◌≡◌, IfNone, false};
+ghost use Rattle.bor_http.specs.declared.incoming.fault.WireFault.TheVariants.{Read as ReadFault};
 ghost use Rattle.bor_http.specs.Incoming.Message.{request_limit};
-ghost use Rattle.bor_http.specs.Incoming.Reading.{TakesAtMost};
+ghost use Rattle.bor_http.specs.Incoming.Reading.{IsReadInPart, TakesAtMost};
 ghost use Rattle.bor_wire.specs.Answering.{AnswersOne, RespondsIfRead};
+ghost use Rattle.bor_wire.specs.declared.outcome.Outcome.TheVariants.{ReadFailed};
 ghost use Rattle.bor_wire.specs.Exchanges.{IsWritten, faults_unread, read_faults, write_faults};
 
 use crate::reply::Reply;
@@ -52,6 +54,8 @@ fn read_reply<K: Keep, R: Read>(
         result }
     ensures taken { TakesAtMost request_limit (R.remaining reader.old.inner)
         (R.remaining reader.new.inner) }
+    ensures partial { IfNone result
+        (IsReadInPart (R.remaining reader.old.inner) (R.remaining reader.new.inner) ReadFault) }
     ensures faults { reader.new.faults ≡ faults_unread result reader.old.faults }
     ensures asks { reader.old.is_over ≡ false → reader.new.late ≡ reader.old.late }
 {
@@ -69,7 +73,8 @@ fn read_reply<K: Keep, R: Read>(
 /// front, are the reply to the one input, which each agent receives as it would alone, and the
 /// register left is the one after it. With 503 they are [`UNAVAILABLE`](crate::UNAVAILABLE), and
 /// nothing changed, unless the store shut in its commit: then the next one to open it may find the
-/// change.
+/// change. So it is one of exchanges one after the other, of which the laws speak
+/// ([`an_exchange_is_a_turn`](crate::laws::an_exchange_is_a_turn)).
 ///
 /// Of any keep it is said that 503 has `UNAVAILABLE` written, which refusal answers an input that
 /// spells no request, and, if its store has returned what was written, that a request has another
@@ -84,8 +89,9 @@ fn read_reply<K: Keep, R: Read>(
 /// another reader it isn't said which request was answered, and of another writer not what was
 /// written. What is left, and the faults, are said of any. At most 1,064,960 bytes are read, and
 /// nothing more is asked of a reader once a read has given no byte. A failed read, an interruption
-/// too, ends the exchange as [`Outcome::ReadFailed`], and a write that fails or takes nothing as
-/// [`Outcome::WriteFailed`]: each comes exactly where that end's count of faults moved.
+/// too, ends the exchange as [`Outcome::ReadFailed`], and what was read is no whole request; a write
+/// that fails or takes nothing ends it as [`Outcome::WriteFailed`]. Each comes exactly where that
+/// end's count of faults moved.
 pub fn exchange<K: Keep, R: Read, W: Write>(
     alloc: Global,
     keep: &mut K,
@@ -96,6 +102,8 @@ pub fn exchange<K: Keep, R: Read, W: Write>(
         (W.contents writer.old.inner) (W.contents writer.new.inner) }
     ensures taken { TakesAtMost request_limit (R.remaining reader.old.inner)
         (R.remaining reader.new.inner) }
+    ensures partial { result ≡ ReadFailed
+        → IsReadInPart (R.remaining reader.old.inner) (R.remaining reader.new.inner) ReadFault }
     ensures read_faults { reader.new.faults ≡ read_faults result reader.old.faults }
     ensures write_faults { writer.new.faults ≡ write_faults result writer.old.faults }
     ensures asks { reader.old.is_over ≡ false → reader.new.late ≡ reader.old.late }

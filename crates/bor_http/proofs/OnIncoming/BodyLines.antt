@@ -11,7 +11,8 @@ use Rattle.bor_http.specs.declared.incoming.fault.Refusal.{Refusal}
 use Rattle.bor_http.specs.declared.incoming.fault.Refusal.TheVariants.{BadLength, BodyTooLarge, CutShort}
 use Rattle.bor_http.specs.Incoming.Message.{Parts, Message, FieldText, is_named, is_numeral, how_many, first_value, body_limit}
 use Rattle.bor_http.specs.Incoming.Refusals.{refuse, values, lengths, exceeds, lines_of_body, stated_length, message_of}
-use Rattle.bor_http.specs.Incoming.Steps.{and_then, length_of, body_len, body_of, with_body}
+use Rattle.bor_http.specs.Incoming.Steps.{length_of, body_len}
+use Rattle.bor_http.proofs.OnIncoming.Steps.{and_then, body_of, with_body}
 
 -- ---- the values of fields
 

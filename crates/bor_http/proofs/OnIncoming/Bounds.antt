@@ -11,7 +11,8 @@ use Rattle.bor_http.specs.declared.incoming.progress.Progress.{Progress}
 use Rattle.bor_http.specs.declared.incoming.progress.Progress.TheVariants.{Searched, Needs}
 use Rattle.bor_http.specs.Incoming.Head.{head_len, head_limit, line_feeds, line_limit}
 use Rattle.bor_http.specs.Incoming.Message.{FieldText, Message, Parts, body_limit, first_value, how_many, is_numeral, request_limit}
-use Rattle.bor_http.specs.Incoming.Steps.{HasParts, IsAt, and_then, body_len, body_of, head_at, length_of, with_body, with_few_lines, without_head}
+use Rattle.bor_http.specs.Incoming.Steps.{HasParts, body_len, length_of}
+use Rattle.bor_http.proofs.OnIncoming.Steps.{IsAt, and_then, body_of, head_at, with_body, with_few_lines, without_head}
 use Rattle.bor_http.specs.Incoming.Progress.{IsProgress, IsWhole, needs}
 use Rattle.bor_http.proofs.OnIncoming.ByTable.{to_steps}
 use Rattle.bor_http.proofs.OnIncoming.HeadLemmas.{head_len-le}

@@ -11,7 +11,8 @@ use Rattle.bor_http.specs.declared.incoming.fault.Refusal.TheVariants.{HeadTooLa
 use Rattle.bor_http.specs.Incoming.Head.{head_end, head_limit, line_limit, line_feeds}
 use Rattle.bor_http.specs.Incoming.Message.{Parts, Message, IsTakenApart, parts_of}
 use Rattle.bor_http.specs.Incoming.Refusals.{refuse, lines_of_body, lines_of_input, message_in, message_of, message_read, IsMessage}
-use Rattle.bor_http.specs.Incoming.Steps.{and_then, with_few_lines, without_head, head_at, with_body, HasParts, IsAt, IsMessageBySteps}
+use Rattle.bor_http.specs.Incoming.Steps.{HasParts}
+use Rattle.bor_http.proofs.OnIncoming.Steps.{and_then, with_few_lines, without_head, head_at, with_body, IsAt, IsMessageBySteps}
 use Rattle.bor_http.proofs.OnIncoming.BodyLines.{body_is}
 
 -- the parts of a head, or that it is none

@@ -4,7 +4,8 @@ use Rattle.httparse.specs.Grammar.{crlf, Field, RequestHead}
 use Rattle.bor_http.specs.declared.incoming.fault.Refusal.TheVariants.{HeadTooLarge, CutShort, BadLength, BodyTooLarge}
 use Rattle.bor_http.specs.Incoming.Counted.{after_fault, takes_nothing}
 use Rattle.bor_http.specs.Incoming.Head.{head_len}
-use Rattle.bor_http.specs.Incoming.Steps.{head_within, head_at, HasParts, body_len, length_of, with_body}
+use Rattle.bor_http.specs.Incoming.Steps.{HasParts, body_len, length_of}
+use Rattle.bor_http.proofs.OnIncoming.Steps.{head_within, head_at, with_body}
 use Rattle.bor_http.specs.Incoming.Refusals.{message_read, IsMessage}
 use Rattle.bor_http.specs.Incoming.Message.{Parts, FieldText, BeginsWith, only_value}
 use Rattle.bor_http.proofs.OnIncoming.Written.{begins_with, head_fits, writer}

@@ -1,12 +1,15 @@
 -- The bytes that were read of a request say what the whole input is.
-use Rattle.std.proofs.Common.{◌≡◌, ◌≤◌, ◌<◌, ◌↔◌, ℕ, List, ◌++◌, length, Bool, true, false, Option, Some, None, IfSome, sym, subst, arith, inl, inr, ◌+◌, length-append}
+use Rattle.std.proofs.Common.{◌≡◌, ◌≤◌, ◌<◌, ◌↔◌, ◌-◌, ℕ, List, ◌++◌, length, Bool, true, false, Option, Some, None, IfSome, Result, Ok, Err, sym, ap, subst, ◌∙◌, arith, inl, inr, ◌+◌, append-nil, length-append}
 use Rattle.std.specs.Io.KnownBytes.{Consumes}
+use Rattle.std.proofs.KnownBytes.{Consumes-trans}
 use Rattle.std.proofs.lemmas.Bool.{cases_lt, iff_false}
 use Rattle.bor_http.specs.Incoming.Message.{request_limit}
 use Rattle.bor_http.specs.declared.incoming.progress.Progress.{Progress}
 use Rattle.bor_http.specs.Incoming.Progress.{IsProgress, IsWhole, needs}
 use Rattle.bor_http.specs.Incoming.Refusals.{IsMessage}
-use Rattle.bor_http.specs.Incoming.Reading.{SaysAll}
+use Rattle.bor_http.specs.Incoming.Reading.{IsLost, IsReadInPart, SaysAll, TakesAtMost, TakesPiece}
+use Rattle.bor_http.specs.declared.incoming.fault.WireFault.{WireFault}
+use Rattle.bor_http.specs.declared.incoming.fault.WireFault.TheVariants.{Refused, Read, Memory}
 use Rattle.bor_http.proofs.OnIncoming.Bounds.{needs_within}
 use Rattle.bor_http.proofs.OnIncoming.Laws.{message_follows}
 
@@ -28,3 +31,31 @@ not_reached needed count len is_whole both isnt same = elim (cases_lt count need
 pub read_fits : (received more : List ℕ) (progress : Progress) → IsProgress received progress → length received < needs progress → length received + length more ≤ needs progress
     → length (received ++ more) ≤ request_limit
 read_fits received more progress known less within = omega (arith, length-append received more, within, needs_within received progress known less)
+
+-- ---- one read more, where some of the request is missing
+
+module _ (known held left : Option (List ℕ)) (received new : List ℕ) (progress : Progress) (wanted : ℕ) (consumed : Consumes known held received) (so_far : IsProgress received progress)
+    (less : length received < needs progress) (most : wanted ≤ needs progress - length received) where
+  pub taken_more : (result : Result ℕ WireFault) → TakesPiece held left received new wanted result → TakesAtMost request_limit known left
+  taken_more result piece = (
+    received ++ piece.bytes,
+    Consumes-trans known held left received piece.bytes consumed piece.consumed,
+    read_fits received piece.bytes progress so_far less (omega (arith, less, most, piece.within)),
+  )
+
+  pub come_more : (count : ℕ) → TakesPiece held left received new wanted (Ok count) → (length new ≤ request_limit) × Consumes known left new
+  unfolding taken_more
+  come_more count piece = let taken = taken_more (Ok count) piece in rw piece.came.0 (taken.2, taken.1)
+
+  -- where the read failed, what came before is all that was given
+  pub unread_more : (fault : WireFault) → (IsWhole received → needs progress ≤ length received) → TakesPiece held left received new wanted (Err fault) → IsReadInPart known left fault
+  unread_more fault whole piece = unread fault piece.bytes piece.consumed piece.came
+    where
+      unread : (fault : WireFault) (bytes : List ℕ) → Consumes held left bytes → IsLost bytes fault → IsReadInPart known left fault
+      unread (Refused why) bytes taken lost = absurd lost
+      unread Read bytes taken lost = (
+        received,
+        subst (Consumes known left) (ap (λ more. received ++ more) lost ∙ append-nil received) (Consumes-trans known held left received bytes consumed taken),
+        λ is. omega (arith, less, whole is),
+      )
+      unread Memory bytes taken lost = tt

@@ -8,7 +8,8 @@ use Rattle.bor_http.specs.declared.incoming.fault.Refusal.{Refusal}
 use Rattle.bor_http.specs.declared.incoming.fault.Refusal.TheVariants.{HeadTooLarge, CutShort}
 use Rattle.bor_http.specs.Incoming.Head.{head_len, line_feeds, line_limit, head_limit}
 use Rattle.bor_http.specs.Incoming.Message.{Parts, Message}
-use Rattle.bor_http.specs.Incoming.Steps.{head_at, head_within, without_head, with_few_lines, HasParts, IsAt, and_then, with_body, body_of, body_len, IsMessageBySteps}
+use Rattle.bor_http.specs.Incoming.Steps.{HasParts, body_len}
+use Rattle.bor_http.proofs.OnIncoming.Steps.{head_at, head_within, without_head, with_few_lines, IsAt, and_then, with_body, body_of, IsMessageBySteps}
 use Rattle.bor_http.specs.Incoming.Refusals.{message_read, IsMessage}
 use Rattle.bor_http.specs.Incoming.Laws.{OneRequest, RestIsIgnored}
 use Rattle.bor_http.proofs.OnIncoming.ByTable.{one_head, to_steps, from_steps}

@@ -10,7 +10,8 @@ use Rattle.bor_http.specs.declared.incoming.fault.Refusal.TheVariants.{BadLength
 use Rattle.bor_http.specs.declared.incoming.fault.WireFault.{WireFault}
 use Rattle.bor_http.specs.declared.incoming.fault.WireFault.TheVariants.{Refused, Read, Memory}
 use Rattle.bor_http.specs.Incoming.Head.{head_len, head_limit, line_feeds, line_limit}
-use Rattle.bor_http.specs.Incoming.Steps.{head_at, HasParts, HeadFault, IsAt, IsBehind, and_then, with_body, with_few_lines, body_of, body_len, length_of}
+use Rattle.bor_http.specs.Incoming.Steps.{HasParts, HeadFault, body_len, length_of}
+use Rattle.bor_http.proofs.OnIncoming.Steps.{head_at, IsAt, IsBehind, and_then, with_body, with_few_lines, body_of}
 use Rattle.bor_http.specs.Incoming.Refusals.{IsMessage}
 use Rattle.bor_http.specs.Incoming.Reading.{IsRefusedAs}
 use Rattle.bor_http.specs.Incoming.Message.{Parts, FieldText, is_numeral, how_many, first_value, body_limit}

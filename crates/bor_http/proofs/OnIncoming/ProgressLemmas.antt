@@ -9,7 +9,8 @@ use Rattle.bor_http.specs.declared.incoming.fault.Refusal.TheVariants.{HeadTooLa
 use Rattle.bor_http.specs.declared.incoming.progress.Progress.{Progress}
 use Rattle.bor_http.specs.declared.incoming.progress.Progress.TheVariants.{Searched, Needs}
 use Rattle.bor_http.specs.Incoming.Head.{head_len, head_limit}
-use Rattle.bor_http.specs.Incoming.Steps.{IsScanned, with_few_lines, HasParts, and_then, body_len, body_of, length_of, with_body}
+use Rattle.bor_http.specs.Incoming.Steps.{IsScanned, HasParts, body_len, length_of}
+use Rattle.bor_http.proofs.OnIncoming.Steps.{with_few_lines, and_then, body_of, with_body}
 use Rattle.bor_http.specs.Incoming.Refusals.{IsMessage}
 use Rattle.bor_http.specs.Incoming.Message.{FieldText, Message, Parts, body_limit, first_value, how_many, is_numeral}
 use Rattle.bor_http.specs.Incoming.Progress.{IsProgress, IsWhole, needs}
@@ -32,6 +33,11 @@ searched_all bytes none = (omega arith, rw (take_all (length bytes) bytes (omega
 pub missing : (bytes : List ℕ) → length bytes < head_limit → head_len bytes ≡ None → IsWhole bytes → ⊥
 missing bytes short none whole =
     whole (head_refused bytes CutShort (head-cut_short head_limit bytes short none))
+
+-- no bytes are no request
+pub nothing_is_partial : IsWhole [] → ⊥
+unfolding head_len
+nothing_is_partial whole = missing [] (omega arith) refl whole
 
 -- ---- what is refused for what has come
 

@@ -5,7 +5,7 @@ use Rattle.std.proofs.lemmas.Bool.Decides.{nat_tests}
 use Rattle.std.proofs.Math.Seq.{take-append-add}
 use Rattle.bor_http.specs.declared.incoming.fault.Refusal.TheVariants.{HeadTooLarge, CutShort}
 use Rattle.bor_http.specs.Incoming.Head.{head_len, line_feeds, line_limit}
-use Rattle.bor_http.specs.Incoming.Steps.{head_within, without_head, with_few_lines}
+use Rattle.bor_http.proofs.OnIncoming.Steps.{head_within, without_head, with_few_lines}
 use Rattle.bor_http.proofs.OnIncoming.HeadLemmas.{head_len-append, head_len-le}
 
 take_within : (limit : ℕ) (buffer rest : List ℕ) → length buffer ≤ limit

@@ -9,7 +9,9 @@ use Rattle.std.proofs.lemmas.List.Splits.{join_with_byte-slice_split}
 use Rattle.std.proofs.lemmas.Bool.Decides.{nat_tests}
 use Rattle.bor_http.specs.declared.incoming.fault.Path.{Path}
 use Rattle.bor_http.specs.declared.incoming.fault.Path.TheVariants as paths
-use Rattle.bor_http.specs.Routes.Routes.{Line, route_table, path_word}
+use Rattle.bor_http.specs.Incoming.Words.{path_word}
+use Rattle.bor_http.specs.declared.routes.route.Route.{Route}
+use Rattle.bor_http.specs.Routes.Routes.{every_route, route_line}
 use Rattle.bor_http.specs.Routes.Paths.{segments, is_segment_word, stands_for, is_written_as, path_of, IsSegment, IsPath}
 use Rattle.bor_http.specs.Routes.Routers.{router, path_in}
 use Rattle.bor_http.proofs.OnRoutes.AsWritten.{is_found, is_path}
@@ -179,27 +181,27 @@ is_the_path paths.Agents text h = plain_path text paths.Agents refl h
 is_the_path paths.Agent text h = is_agent text h
 is_the_path paths.Register text h = plain_path text paths.Register refl h
 
--- the line that is found has the path
-written_so : (lines : List Line) (text : List ℕ) (path : Path) → option_map (λ line. line.path) (find (λ line. is_written_as text line.path) lines) ≡ Some path
+-- the route that is found has the path
+written_so : (routes : List Route) (text : List ℕ) (path : Path) → option_map (λ route. (route_line route).path) (find (λ route. is_written_as text (route_line route).path) routes) ≡ Some path
     → is_written_as text path ≡ true
 written_so [] text path e = cc
-written_so (line ∷ lines) text path e = by_test (is_written_as text line.path) refl e (written_so lines text path)
+written_so (route ∷ routes) text path e = by_test (is_written_as text (route_line route).path) refl e (written_so routes text path)
   where
-    by_test : (t : Bool) → is_written_as text line.path ≡ t
-        → option_map (λ line. line.path) (cond t (Some line) (find (λ line. is_written_as text line.path) lines)) ≡ Some path
-        → (option_map (λ line. line.path) (find (λ line. is_written_as text line.path) lines) ≡ Some path → is_written_as text path ≡ true)
+    by_test : (t : Bool) → is_written_as text (route_line route).path ≡ t
+        → option_map (λ route. (route_line route).path) (cond t (Some route) (find (λ route. is_written_as text (route_line route).path) routes)) ≡ Some path
+        → (option_map (λ route. (route_line route).path) (find (λ route. is_written_as text (route_line route).path) routes) ≡ Some path → is_written_as text path ≡ true)
         → is_written_as text path ≡ true
-    by_test true is e more = let same : line.path ≡ path = cc in subst (λ p. is_written_as text p ≡ true) same is
+    by_test true is e more = let same : (route_line route).path ≡ path = cc in subst (λ p. is_written_as text p ≡ true) same is
     by_test false is e more = more e
 
 said_path : (path : Path) (text : List ℕ) → path_of text ≡ Some path → IsPath path text
 unfolding path_of
-said_path path text e = is_the_path path text (written_so route_table text path e)
+said_path path text e = is_the_path path text (written_so every_route text path e)
 
 -- ---- a path is the one of its segments
 
 abbrev path_by : List (List ℕ) → Option Path
-path_by parts = option_map (λ line. line.path) (find (λ line. pointwise stands_for parts (segments (path_word line.path))) route_table)
+path_by parts = option_map (λ route. (route_line route).path) (find (λ route. pointwise stands_for parts (segments (path_word (route_line route).path))) every_route)
 
 filing_by : (key : List ℕ) → nat_lt 0 (length key) ≡ true → path_by (behind (codes "filings") key []) ≡ Some paths.Filing
 filing_by key some = rw some refl

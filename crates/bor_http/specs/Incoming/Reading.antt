@@ -1,18 +1,20 @@
 -- The effects of reads on a reader, and what the bytes say that were read.
-use Rattle.std.specs.Prelude.{◌≡◌, ℕ, ◌≤◌, List, ◌++◌, length, Option, Result, Ok, Err, ⊤}
+use Rattle.std.specs.Prelude.{◌≡◌, ℕ, ◌≤◌, List, [], ◌++◌, length, Option, Result, Ok, Err, ⊤}
 use Rattle.std.specs.Io.KnownBytes.{Consumes, IsAtEnd}
 use Rattle.bor_http.specs.Incoming.Counted.{after_fault}
 use Rattle.bor_http.specs.declared.incoming.fault.Refusal.{Refusal}
 use Rattle.bor_http.specs.Incoming.Message.{Message}
+use Rattle.bor_http.specs.Incoming.Progress.{IsWhole}
 use Rattle.bor_http.specs.Incoming.Refusals.{IsMessage}
 use Rattle.bor_http.specs.declared.incoming.fault.WireFault.{WireFault}
 use Rattle.bor_http.specs.declared.incoming.fault.WireFault.TheVariants.{Refused, Read, Memory}
 
--- the reader failed, or memory ran out
-abbrev pub IsNoRefusal : WireFault → Type 0
-IsNoRefusal (Refused r) = ⊥
-IsNoRefusal Read = ⊤
-IsNoRefusal Memory = ⊤
+-- The reader failed, or memory ran out. Where the reader failed, the bytes that it gave, from the
+-- first of `known` on, are no whole request.
+abbrev pub IsReadInPart : Option (List ℕ) → Option (List ℕ) → WireFault → Type 0
+IsReadInPart known left (Refused r) = ⊥
+IsReadInPart known left Read = (bytes : List ℕ) × Consumes known left bytes × ¬ (IsWhole bytes)
+IsReadInPart known left Memory = ⊤
 
 -- the count of faults goes up by one exactly where the answer is a read's fault
 abbrev pub FaultTells : WireFault → ℕ → ℕ → Type 0
@@ -46,11 +48,17 @@ TakesAtMost n known left = (bytes : List ℕ) × Consumes known left bytes × (l
 
 -- ---- one read, for clauses of private functions alone
 
+-- these bytes were taken by a read that failed: none, or there was no memory for them
+abbrev pub IsLost : List ℕ → WireFault → Type 0
+IsLost bytes (Refused r) = ⊥
+IsLost bytes Read = bytes ≡ []
+IsLost bytes Memory = ⊤
+
 -- the bytes that were read stand behind the old ones, so many, and none only at the end
 abbrev pub HasCome : Option (List ℕ) → List ℕ → List ℕ → List ℕ → Result ℕ WireFault → Type 0
 HasCome left old new bytes (Ok n) =
     (new ≡ old ++ bytes) × (length bytes ≡ n) × (n ≡ 0 → IsAtEnd left)
-HasCome left old new bytes (Err e) = IsNoRefusal e
+HasCome left old new bytes (Err e) = IsLost bytes e
 
 -- bytes were taken of the reader, at most so many, and have come
 pub record TakesPiece (known left : Option (List ℕ)) (old new : List ℕ) (limit : ℕ)

@@ -1,7 +1,6 @@
--- The reading of an input, one part looked at after the other: each refuses, or the next is looked
--- at. For clauses of private functions alone, but for `◌>>=◌`; it is proved to be what the table
--- says (`Refusals`).
-use Rattle.std.specs.Prelude.{◌≡◌, ℕ, ◌+◌, nat_lt, nat_le, List, [], length, take, drop, map}
+-- Parts of an input, one looked at after the other: each refuses, or the next is looked at. For
+-- clauses of private functions alone, but for `◌>>=◌`.
+use Rattle.std.specs.Prelude.{◌≡◌, ℕ, ◌+◌, nat_lt, nat_le, List, [], length, drop, map}
 use Rattle.std.specs.Prelude.{Result, Ok, Err, if◌then◌else◌, codes, All, ⊤}
 use Rattle.std.specs.Option.{option_map, option_map_or}
 use Rattle.std.specs.Str.Parse.{digits_value}
@@ -9,21 +8,16 @@ use Rattle.httparse.specs.Grammar.{RequestHead, ReadsRequest}
 use Rattle.httparse.specs.declared.spans.Span.{Span}
 use Rattle.httparse.specs.declared.spans.HeaderSpan.{HeaderSpan}
 use Rattle.httparse.specs.Spans.{span_bytes, header_bytes, IsWithin, IsHeaderWithin}
-use Rattle.bor_http.specs.Incoming.Head.{head_len, head_limit, line_feeds, line_limit}
-use Rattle.bor_http.specs.Incoming.Message.{FieldText, Parts, Message, parts_of, how_many}
+use Rattle.bor_http.specs.Incoming.Head.{head_len}
+use Rattle.bor_http.specs.Incoming.Message.{FieldText, Parts, parts_of, how_many}
 use Rattle.bor_http.specs.Incoming.Message.{first_value, is_numeral, body_limit}
 use Rattle.bor_http.specs.declared.incoming.fault.WireFault.{WireFault}
 use Rattle.bor_http.specs.declared.incoming.fault.WireFault.TheVariants.{Refused, Read, Memory}
 use Rattle.bor_http.specs.declared.incoming.fault.Refusal.{Refusal}
-use Rattle.bor_http.specs.declared.incoming.fault.Refusal.TheVariants.{HeadTooLarge, BadHead}
-use Rattle.bor_http.specs.declared.incoming.fault.Refusal.TheVariants.{BadLength, BodyTooLarge}
-use Rattle.bor_http.specs.declared.incoming.fault.Refusal.TheVariants.{CutShort}
+use Rattle.bor_http.specs.declared.incoming.fault.Refusal.TheVariants.{BadHead, BadLength}
+use Rattle.bor_http.specs.declared.incoming.fault.Refusal.TheVariants.{BodyTooLarge}
 
 -- go on with the value, or keep the refusal
-abbrev pub and_then : {A B : Type 0} → (A → Result B Refusal) → Result A Refusal → Result B Refusal
-and_then f (Ok x) = f x
-and_then f (Err r) = Err r
-
 infixl 10 ◌>>=◌
 abbrev pub ◌>>=◌ : {A B : Type 0} → Result A Refusal → (A → Result B Refusal) → Result B Refusal
 (Ok x) >>= f = f x
@@ -34,23 +28,6 @@ abbrev pub ◌>>=◌ : {A B : Type 0} → Result A Refusal → (A → Result B R
 -- the bytes behind these first ones say where the head ends
 abbrev pub IsScanned : List ℕ → ℕ → Type 0
 IsScanned bytes from = head_len bytes ≡ option_map (λ n. from + n) (head_len (drop from bytes))
-
--- a head that was found has few enough lines
-abbrev pub with_few_lines : List ℕ → ℕ → Result ℕ Refusal
-with_few_lines bytes n =
-    if nat_lt line_limit (line_feeds (take n bytes)) then Err HeadTooLarge else Ok n
-
--- no head ends within the limit
-abbrev pub without_head : ℕ → List ℕ → Result ℕ Refusal
-without_head limit input = if nat_lt (length input) limit then Err CutShort else Err HeadTooLarge
-
--- the length of the input's head, which is taken of its first bytes, at most limit
-abbrev pub head_within : ℕ → List ℕ → Result ℕ Refusal
-head_within limit input =
-    option_map_or (with_few_lines input) (head_len (take limit input)) (without_head limit input)
-
-abbrev pub head_at : List ℕ → Result ℕ Refusal
-head_at input = head_within head_limit input
 
 -- ---- its parts
 
@@ -99,29 +76,3 @@ body_len fields =
     if nat_lt 0 (how_many (codes "transfer-encoding") fields) then Err BadLength
     else (if nat_lt 1 (how_many (codes "content-length") fields) then Err BadLength
     else option_map_or (length_of body_limit) (first_value (codes "content-length") fields) (Ok 0))
-
--- the first bytes after the head, as many as the fields say
-abbrev pub body_of : Parts → List ℕ → ℕ → Result Message Refusal
-body_of parts rest n =
-    if nat_lt (length rest) n then Err CutShort
-    else Ok (record { parts = parts; body = take n rest })
-
--- the bytes after a head with these parts
-abbrev pub with_body : List ℕ → Parts → Result Message Refusal
-with_body rest parts = and_then (body_of parts rest) (body_len parts.fields)
-
--- ---- the whole input
-
--- the reading of the input, with its first n bytes as its head
-abbrev pub IsBehind : List ℕ → ℕ → Result Message Refusal → Type 0
-IsBehind input n answer =
-    (parts : Result Parts Refusal) × HasParts (take n input) parts
-    × (answer ≡ and_then (with_body (drop n input)) parts)
-
-abbrev pub IsAt : List ℕ → Result ℕ Refusal → Result Message Refusal → Type 0
-IsAt input (Ok n) answer = IsBehind input n answer
-IsAt input (Err r) answer = answer ≡ Err r
-
--- the whole input is this request and whatever follows it, or is refused
-abbrev pub IsMessageBySteps : List ℕ → Result Message Refusal → Type 0
-IsMessageBySteps input answer = IsAt input (head_at input) answer

@@ -1,5 +1,7 @@
--- The words of names and refusals.
+-- The words of paths, names and refusals.
 use Rattle.std.specs.Prelude.{ℕ, List, Option, Some, None, codes}
+use Rattle.bor_http.specs.declared.incoming.fault.Path.{Path}
+use Rattle.bor_http.specs.declared.incoming.fault.Path.TheVariants as paths
 use Rattle.bor_http.specs.declared.incoming.fault.Name.{Name}
 use Rattle.bor_http.specs.declared.incoming.fault.Name.TheVariants as names
 use Rattle.bor_http.specs.declared.incoming.fault.Refusal.{Refusal}
@@ -8,6 +10,21 @@ use Rattle.bor_http.specs.declared.incoming.fault.Refusal.TheVariants.{BadHead, 
 use Rattle.bor_http.specs.declared.incoming.fault.Refusal.TheVariants.{BodyTooLarge, NoPath}
 use Rattle.bor_http.specs.declared.incoming.fault.Refusal.TheVariants.{WrongMethod, NoToken}
 use Rattle.bor_http.specs.declared.incoming.fault.Refusal.TheVariants.{BadQuery}
+
+-- how a path is written; {key} and {name} stand for one segment each
+abbrev pub path_word : Path → List ℕ
+path_word paths.Filing = codes "/filings/{key}"
+path_word paths.Filings = codes "/filings"
+path_word paths.File = codes "/filings/{key}/file"
+path_word paths.Published = codes "/published"
+path_word paths.Snapshot = codes "/snapshot"
+path_word paths.Chains = codes "/chains"
+path_word paths.Evidence = codes "/evidence"
+path_word paths.Entities = codes "/entities"
+path_word paths.Day = codes "/day"
+path_word paths.Agents = codes "/agents"
+path_word paths.Agent = codes "/agents/{name}"
+path_word paths.Register = codes "/register"
 
 -- the name as it stands in a query
 unfoldable pub name_word : Name → List ℕ

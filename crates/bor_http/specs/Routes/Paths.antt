@@ -7,7 +7,8 @@ use Rattle.std.specs.Str.{bytes_eq}
 use Rattle.std.specs.Cmp.Lexicographic.{pointwise}
 use Rattle.bor_http.specs.declared.incoming.fault.Path.{Path}
 use Rattle.bor_http.specs.declared.incoming.fault.Path.TheVariants as paths
-use Rattle.bor_http.specs.Routes.Routes.{route_table, path_word}
+use Rattle.bor_http.specs.Incoming.Words.{path_word}
+use Rattle.bor_http.specs.Routes.Routes.{every_route, route_line}
 
 -- the segments of a text: what stands before, between and behind its slashes
 abbrev pub segments : List ℕ → List (List ℕ)
@@ -30,7 +31,8 @@ is_written_as text path = pointwise stands_for (segments text) (segments (path_w
 -- the path that a text is, if the table has it
 unfoldable pub path_of : List ℕ → Option Path
 path_of text =
-    option_map (λ line. line.path) (find (λ line. is_written_as text line.path) route_table)
+    option_map (λ route. (route_line route).path)
+    (find (λ route. is_written_as text (route_line route).path) every_route)
 
 -- ---- each path, as it is written
 

@@ -10,13 +10,16 @@ use Rattle.matchit.specs.Route.{Scan, parse_route}
 use Rattle.matchit.specs.Seek.{first}
 use Rattle.matchit.specs.declared.error.InsertError.{InsertError}
 use Rattle.bor_http.specs.declared.incoming.fault.Path.{Path}
-use Rattle.bor_http.specs.Routes.Routes.{Line, route_table, path_word, is_same_path}
+use Rattle.bor_http.specs.Incoming.Words.{path_word}
+use Rattle.bor_http.specs.declared.routes.route.Route.{Route}
+use Rattle.bor_http.specs.Routes.Routes.{every_route, is_same_path, route_line}
 
--- the paths of lines, each once, where it first stands
-abbrev pub paths_of : List Line → List Path
+-- the paths of routes, each once, where it first stands
+abbrev pub paths_of : List Route → List Path
 paths_of [] = []
-paths_of (line ∷ rest) =
-    line.path ∷ filter (λ path. not (is_same_path line.path path)) (paths_of rest)
+paths_of (route ∷ rest) =
+    (route_line route).path
+    ∷ filter (λ path. not (is_same_path (route_line route).path path)) (paths_of rest)
 
 -- a router with one path more
 abbrev pub with_scan : Result Scan InsertError → Path → RowsOf (RouteOf Path)
@@ -33,7 +36,7 @@ with_paths rows (path ∷ rest) = with_paths (with_path rows path) rest
 
 -- the router of all paths of the table
 unfoldable pub router : RowsOf (RouteOf Path)
-router = with_paths [] (paths_of route_table)
+router = with_paths [] (paths_of every_route)
 
 -- the path that matchit finds in a router
 abbrev pub path_in : RowsOf (RouteOf Path) → List ℕ → Option Path

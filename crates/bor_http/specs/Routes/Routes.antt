@@ -1,68 +1,58 @@
 -- The routes: what each path asks for by which method.
-use Rattle.std.specs.Prelude.{ℕ, List, [], ◌∷◌, ◌++◌, Bool, map, find, Option, codes, if◌then◌else◌}
+use Rattle.std.specs.Prelude.{ℕ, List, [], ◌∷◌, ◌++◌, ◌&&◌, Bool, map, find, Option}
+use Rattle.std.specs.Prelude.{codes, if◌then◌else◌}
 use Rattle.std.specs.List.{filter}
-use Rattle.std.specs.Option.{option_map}
 use Rattle.std.specs.Str.{bytes_eq}
 use Rattle.std.specs.Ordering.{nat_cmp, is_lt}
 use Rattle.std.specs.Cmp.Lexicographic.{slice_cmp}
 use Rattle.bor_http.specs.declared.incoming.fault.Path.{Path}
 use Rattle.bor_http.specs.declared.incoming.fault.Path.TheVariants as paths
+use Rattle.bor_http.specs.Incoming.Words.{path_word}
 use Rattle.bor_http.specs.declared.routes.route.Route.{Route}
 use Rattle.bor_http.specs.declared.routes.route.Route.TheVariants as asks
 
--- how a path is written; {key} and {name} stand for one segment each
-abbrev pub path_word : Path → List ℕ
-path_word paths.Filing = codes "/filings/{key}"
-path_word paths.Filings = codes "/filings"
-path_word paths.File = codes "/filings/{key}/file"
-path_word paths.Published = codes "/published"
-path_word paths.Snapshot = codes "/snapshot"
-path_word paths.Chains = codes "/chains"
-path_word paths.Evidence = codes "/evidence"
-path_word paths.Entities = codes "/entities"
-path_word paths.Day = codes "/day"
-path_word paths.Agents = codes "/agents"
-path_word paths.Agent = codes "/agents/{name}"
-path_word paths.Register = codes "/register"
-
--- a line of the table of routes: a path, a method, and what is asked for by it
+-- a line of the table of routes: a method, and a path
 pub record Line : Type 0 where
   pub method : List ℕ
   pub path : Path
-  pub asks : Route
 
-abbrev route_line : List ℕ → Path → Route → Line
-route_line method path route = record { method = method; path = path; asks = route }
+abbrev by : List ℕ → Path → Line
+by method path = record { method = method; path = path }
 
--- the table of routes
-abbrev pub route_table : List Line
-route_table =
-    route_line (codes "PUT") paths.Filing asks.Lodge
-    ∷ route_line (codes "DELETE") paths.Filing asks.Withdraw
-    ∷ route_line (codes "GET") paths.Filings asks.Filings
-    ∷ route_line (codes "GET") paths.File asks.File
-    ∷ route_line (codes "GET") paths.Published asks.Published
-    ∷ route_line (codes "GET") paths.Snapshot asks.Snapshot
-    ∷ route_line (codes "GET") paths.Chains asks.Chains
-    ∷ route_line (codes "GET") paths.Evidence asks.Evidence
-    ∷ route_line (codes "GET") paths.Entities asks.Entities
-    ∷ route_line (codes "POST") paths.Day asks.Day
-    ∷ route_line (codes "POST") paths.Agents asks.Enrol
-    ∷ route_line (codes "PUT") paths.Agent asks.Renew
-    ∷ route_line (codes "GET") paths.Register asks.Register
-    ∷ []
+-- the table of routes: what each is asked for by
+abbrev pub route_line : Route → Line
+route_line asks.Lodge = by (codes "PUT") paths.Filing
+route_line asks.Withdraw = by (codes "DELETE") paths.Filing
+route_line asks.Filings = by (codes "GET") paths.Filings
+route_line asks.File = by (codes "GET") paths.File
+route_line asks.Published = by (codes "GET") paths.Published
+route_line asks.Snapshot = by (codes "GET") paths.Snapshot
+route_line asks.Chains = by (codes "GET") paths.Chains
+route_line asks.Evidence = by (codes "GET") paths.Evidence
+route_line asks.Entities = by (codes "GET") paths.Entities
+route_line asks.Day = by (codes "POST") paths.Day
+route_line asks.Enrol = by (codes "POST") paths.Agents
+route_line asks.Renew = by (codes "PUT") paths.Agent
+route_line asks.Register = by (codes "GET") paths.Register
+
+-- all routes
+abbrev pub every_route : List Route
+every_route =
+    asks.Lodge ∷ asks.Withdraw ∷ asks.Filings ∷ asks.File ∷ asks.Published ∷ asks.Snapshot
+    ∷ asks.Chains ∷ asks.Evidence ∷ asks.Entities ∷ asks.Day ∷ asks.Enrol ∷ asks.Renew
+    ∷ asks.Register ∷ []
 
 abbrev pub is_same_path : Path → Path → Bool
 is_same_path a b = bytes_eq (path_word a) (path_word b)
 
--- the lines of a path
-abbrev pub lines_of : Path → List Line
-lines_of path = filter (λ line. is_same_path line.path path) route_table
+-- whether a route is one of the path
+abbrev pub is_at : Path → Route → Bool
+is_at path route = is_same_path (route_line route).path path
 
--- the request of a path by a method, if a line has both
+-- the route of a path by a method, if a line has both
 unfoldable pub route_at : Path → List ℕ → Option Route
 route_at path method =
-    option_map (λ line. line.asks) (find (λ line. bytes_eq line.method method) (lines_of path))
+    find (λ route. is_at path route && bytes_eq (route_line route).method method) every_route
 
 -- ---- the methods of a path (RFC 9110, 10.2.1)
 
@@ -82,6 +72,8 @@ enumerated [] = []
 enumerated (word ∷ []) = word
 enumerated (word ∷ next ∷ rest) = word ++ codes ", " ++ enumerated (next ∷ rest)
 
--- the methods of the path's lines, in alphabetical order
+-- the methods of the path's routes, in alphabetical order
 unfoldable pub allow : Path → List ℕ
-allow path = enumerated (in_order (map (λ line. line.method) (lines_of path)))
+allow path =
+    enumerated (in_order (map (λ route. (route_line route).method)
+    (filter (is_at path) every_route)))

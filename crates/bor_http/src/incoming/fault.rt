@@ -1,37 +1,59 @@
 //! Why no request was read.
 
 ghost use Rattle.std.specs.Prelude.{◌≡◌};
-ghost use Rattle.bor_http.specs.Incoming.Words.{name_word, refusal_word, refused_name};
+ghost use Rattle.bor_http.specs.Incoming.Words.{name_word, path_word, refusal_word, refused_name};
 
 use std::alloc::AllocError;
 
 /// The paths that there are.
 #[derive(Clone, Copy, Debug, PartialEq, Eq)]
 pub enum Path {
-    /// `/filings/{key}`
+    /// A filing, by its key.
     Filing,
-    /// `/filings`
+    /// The caller's filings.
     Filings,
-    /// `/filings/{key}/file`
+    /// The file of a filing.
     File,
-    /// `/published`
+    /// What is published.
     Published,
-    /// `/snapshot`
+    /// The open records of a declaration.
     Snapshot,
-    /// `/chains`
+    /// The persons behind an entity.
     Chains,
-    /// `/evidence`
+    /// Why they are named.
     Evidence,
-    /// `/entities`
+    /// The entities that have an identifier.
     Entities,
-    /// `/day`
+    /// The day.
     Day,
-    /// `/agents`
+    /// The agents.
     Agents,
-    /// `/agents/{name}`
+    /// An agent, by its name.
     Agent,
-    /// `/register`
+    /// The day and the agents.
     Register,
+}
+
+impl Path {
+    /// The path as it is written, with `{key}` for a key and `{name}` for a name.
+    pub fn as_str(self) -> &'static str
+        ensures { result.now ≡ path_word self }
+    {
+        match self {
+            Path::Filing => "/filings/{key}",
+            Path::Filings => "/filings",
+            Path::File => "/filings/{key}/file",
+            Path::Published => "/published",
+            Path::Snapshot => "/snapshot",
+            Path::Chains => "/chains",
+            Path::Evidence => "/evidence",
+            Path::Entities => "/entities",
+            Path::Day => "/day",
+            Path::Agents => "/agents",
+            Path::Agent => "/agents/{name}",
+            Path::Register => "/register",
+        }
+    }
 }
 
 /// The names of what routes ask for, in a path, a query or a body.

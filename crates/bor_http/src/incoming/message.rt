@@ -121,7 +121,7 @@ impl<'a> RawRequest<'a> {
 /// `Refused`: the bytes are no request; what comes first of [`Refusal`], up to the second
 /// `CutShort`. `Memory`: memory is wanting. No reader is asked, so `Read` is never answered.
 pub fn message_in<'a>(alloc: Global, input: &'a [u8]) -> Result<RawRequest<'a>, WireFault>
-    ensures { IsReadAs input.now result }
+    ensures reading { IsReadAs input.now result }
 {
     let front = &input[..HEAD_LIMIT.min(input.len())];
     let Some(len) = head_end_from(front, 0) else {

@@ -28,6 +28,7 @@ mod message;
 mod progress;
 mod request;
 mod sending;
+mod split;
 
 pub use counted::Counted;
 pub use fault::{Name, Path, Refusal, WireFault};
@@ -35,3 +36,4 @@ pub use message::{RawRequest, message_in};
 pub use progress::Progress;
 pub use request::read_request;
 pub use sending::send;
+pub use split::split_at_first;

@@ -1,10 +1,10 @@
 //! Reading the bytes of one request.
 
-ghost use Rattle.std.specs.Prelude.{◌≡◌, ◌≤◌, ◌<◌, ◌==◌, ◌⊎◌, false, length, IfErr, IfOk, IfSome};
+ghost use Rattle.std.specs.Prelude.{◌≡◌, ◌≤◌, ◌<◌, ◌==◌, ◌⊎◌, false, true, length, IfErr, IfOk, IfSome};
 ghost use Rattle.std.specs.Io.KnownBytes.{Consumes, IsAtEnd};
 ghost use Rattle.bor_http.specs.Incoming.Message.{request_limit};
 ghost use Rattle.bor_http.specs.Incoming.Progress.{IsWhole};
-ghost use Rattle.bor_http.specs.Incoming.Reading.{FaultsTell, IsNoRefusal, SaysAll, TakesAtMost, TakesPiece};
+ghost use Rattle.bor_http.specs.Incoming.Reading.{FaultsTell, IsReadInPart, SaysAll, TakesAtMost, TakesPiece};
 
 use crate::incoming::counted::Counted;
 use crate::incoming::fault::WireFault;
@@ -64,18 +64,20 @@ fn read_more<R: Read>(
 ///
 /// # Errors
 ///
-/// `Read`: the reader failed, exactly where its count of faults moved. `Memory`: memory is wanting.
+/// `Read`: the reader failed, exactly where its count of faults moved, and what it gave is no whole
+/// request. `Memory`: memory is wanting.
 pub fn read_request<R: Read>(alloc: Global, reader: &mut Counted<R>) -> Result<Vec<u8>, WireFault>
     ensures request { IfSome (R.remaining reader.old.inner) (λ input.
         IfOk result (λ bytes. SaysAll bytes.items input)) }
-    ensures whole { IfOk result (λ bytes.
-        IsWhole bytes.items ⊎ IsAtEnd (R.remaining reader.new.inner)) }
+    ensures whole { IfOk result (λ bytes. IsWhole bytes.items
+        ⊎ ((reader.new.is_over ≡ true) × IsAtEnd (R.remaining reader.new.inner))) }
     ensures bytes { IfOk result (λ bytes. (length bytes.items ≤ request_limit)
         × Consumes (R.remaining reader.old.inner) (R.remaining reader.new.inner) bytes.items) }
     ensures taken { TakesAtMost request_limit (R.remaining reader.old.inner)
         (R.remaining reader.new.inner) }
     ensures faults { FaultsTell result reader.old.faults reader.new.faults }
-    ensures fault { IfErr result IsNoRefusal }
+    ensures fault { IfErr result
+        (IsReadInPart (R.remaining reader.old.inner) (R.remaining reader.new.inner)) }
     ensures asks { reader.old.is_over ≡ false → reader.new.late ≡ reader.old.late }
 {
     let mut received = Vec::new(alloc);

@@ -8,23 +8,30 @@ use crate::incoming::Path;
 use matchit::{InsertError, Router};
 use std::alloc::{AllocError, Global};
 
+// All paths.
+const PATHS: [Path; 12] = [
+    Path::Filing,
+    Path::Filings,
+    Path::File,
+    Path::Published,
+    Path::Snapshot,
+    Path::Chains,
+    Path::Evidence,
+    Path::Entities,
+    Path::Day,
+    Path::Agents,
+    Path::Agent,
+    Path::Register,
+];
+
 // The router that has all paths.
 fn router_of_paths(alloc: Global) -> Result<Router<Path>, InsertError>
     ensures { IfOk result (λ paths. paths ≡ router) }
 {
     let mut router = Router::new(alloc);
-    router.insert("/filings/{key}", Path::Filing)?;
-    router.insert("/filings", Path::Filings)?;
-    router.insert("/filings/{key}/file", Path::File)?;
-    router.insert("/published", Path::Published)?;
-    router.insert("/snapshot", Path::Snapshot)?;
-    router.insert("/chains", Path::Chains)?;
-    router.insert("/evidence", Path::Evidence)?;
-    router.insert("/entities", Path::Entities)?;
-    router.insert("/day", Path::Day)?;
-    router.insert("/agents", Path::Agents)?;
-    router.insert("/agents/{name}", Path::Agent)?;
-    router.insert("/register", Path::Register)?;
+    for path in PATHS {
+        router.insert(path.as_str(), path)?;
+    }
     Ok(router)
 }
 

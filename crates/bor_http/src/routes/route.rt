@@ -1,10 +1,9 @@
-//! The requests that a path has by method, and its methods.
-ghost use Rattle.std.specs.Prelude.{◌≡◌, Some, None, if◌then◌else◌};
+//! The table of routes, and the methods of a path.
+ghost use Rattle.std.specs.Prelude.{◌≡◌, ◌&&◌, Some};
 ghost use Rattle.std.specs.Str.{bytes_eq};
 ghost use Rattle.bor_http.specs.Routes.Routes as spec;
 
 use crate::incoming::Path;
-use http::Method;
 
 /// The request of a path by a method.
 #[derive(Clone, Copy, Debug, PartialEq, Eq)]
@@ -37,40 +36,55 @@ pub enum Route {
     Register,
 }
 
-// The route, where the method is the one that it is asked for by.
-fn by(wanted: &Method, method: &[u8], route: Route) -> Option<Route>
-    ensures { result ≡ (if bytes_eq wanted.now method.now then Some route else None) }
+// The table of routes, in the order of [`Route`]: the path and the method that each is asked for by.
+const ROUTES: [(Path, &str, Route); 13] = [
+    (Path::Filing, "PUT", Route::Lodge),
+    (Path::Filing, "DELETE", Route::Withdraw),
+    (Path::Filings, "GET", Route::Filings),
+    (Path::File, "GET", Route::File),
+    (Path::Published, "GET", Route::Published),
+    (Path::Snapshot, "GET", Route::Snapshot),
+    (Path::Chains, "GET", Route::Chains),
+    (Path::Evidence, "GET", Route::Evidence),
+    (Path::Entities, "GET", Route::Entities),
+    (Path::Day, "POST", Route::Day),
+    (Path::Agents, "POST", Route::Enrol),
+    (Path::Agent, "PUT", Route::Renew),
+    (Path::Register, "GET", Route::Register),
+];
+
+// Whether a line has the path and the method.
+#[tactic(auto, using(crate::proofs::OnRoutes::Lines::same_path, crate::proofs::OnRoutes::Lines::other_path))]
+fn has_both(line: (Path, &'static str, Route), path: Path, method: &[u8]) -> bool
+    ensures { result ≡ (spec.is_same_path line.entry.0 path
+        && bytes_eq line.entry.1.now method.now) }
 {
-    if wanted.as_str().as_bytes() == method {
-        Some(route)
-    } else {
-        None
-    }
+    line.0 == path && line.1.as_bytes() == method
 }
 
-/// The request of a path by a method (RFC 9110, 9.3), if it has the method. Methods are compared as
+/// The route of a path by a method (RFC 9110, 9.3), if it has the method. Methods are compared as
 /// they stand: `get` and `HEAD` are not `GET`.
 #[tactic(auto, unfolding(crate::specs::Routes::Routes::route_at))]
 pub fn route_at(path: Path, method: &[u8]) -> Option<Route>
     ensures { result ≡ spec.route_at path method.now }
 {
-    match path {
-        Path::Filing => match by(&Method::PUT, method, Route::Lodge) {
-            Some(route) => Some(route),
-            None => by(&Method::DELETE, method, Route::Withdraw),
-        },
-        Path::Filings => by(&Method::GET, method, Route::Filings),
-        Path::File => by(&Method::GET, method, Route::File),
-        Path::Published => by(&Method::GET, method, Route::Published),
-        Path::Snapshot => by(&Method::GET, method, Route::Snapshot),
-        Path::Chains => by(&Method::GET, method, Route::Chains),
-        Path::Evidence => by(&Method::GET, method, Route::Evidence),
-        Path::Entities => by(&Method::GET, method, Route::Entities),
-        Path::Day => by(&Method::POST, method, Route::Day),
-        Path::Agents => by(&Method::POST, method, Route::Enrol),
-        Path::Agent => by(&Method::PUT, method, Route::Renew),
-        Path::Register => by(&Method::GET, method, Route::Register),
+    for line in ROUTES {
+        if has_both(line, path, method) {
+            return Some(line.2);
+        }
     }
+    None
+}
+
+/// The path and the method that a route is asked for by.
+#[tactic(auto, unfolding(crate::specs::Routes::Routes::route_at))]
+pub fn line_of(route: Route) -> (Path, &'static str)
+    ensures path { result.0 ≡ (spec.route_line route).path }
+    ensures method { result.1.now ≡ (spec.route_line route).method }
+    ensures route { spec.route_at result.0 result.1.now ≡ Some route }
+{
+    let (path, method, _) = ROUTES[route as usize];
+    (path, method)
 }
 
 /// The methods of a path, as `Allow` tells them in a 405 reply (RFC 9110, 10.2.1).

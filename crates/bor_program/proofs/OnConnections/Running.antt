@@ -13,8 +13,8 @@ use Rattle.bor_program.specs.declared.log.Note.{Note}
 use Rattle.bor_program.specs.declared.connections.server.Server.{Server}
 use Rattle.bor_program.specs.Connections.Serving.{IsServedOver}
 use Rattle.bor_program.specs.Connections.Streams.{EndedOn, Wire}
-use Rattle.bor_program.specs.Connections.Servers.{Advances, AreHeld, AreSeated, AsksWhoComes, Becomes, GoesOnAs, IsRunning, IsSameElse, Lets, LetsIn, Runs, Standing, pending_in, tally_in, telling_in}
-use Rattle.bor_program.specs.Connections.Watching.{Act, AreDone, DoesUnwaiting, Listens, OnWait, WaitsOnce, faults_after, is_asking, notes_in, refused_in}
+use Rattle.bor_program.specs.Connections.Servers.{Advances, AreHeld, AreSeated, AsksWhoComes, Becomes, GoesOnAs, IsSameElse, Lets, LetsIn, Runs, Standing, pending_in, tally_in, telling_in}
+use Rattle.bor_program.specs.Connections.Watching.{Act, AreDone, DoesUnwaiting, Listens, OnWait, WaitsOnce, faults_after, is_asking, notes_in, refused_in, waits_in}
 use Rattle.bor_program.proofs.OnConnections.Servers.{becomes_at, begun, finished, lets_go_on, lets_same, lets_then}
 use Rattle.bor_program.proofs.OnConnections.Watching.{does_none, does_then, done-append, faults-append, notes-append, over_kept, refused-append, unwaited, waits-append, waits_weaker}
 
@@ -43,6 +43,24 @@ asks_on does begun between left refused notes h more = record {
 }
 
 -- ---- the server goes on
+
+-- The server goes on: these calls were made of its watch, of which so many waits failed last, one
+-- after the other, of so many in all.
+pub record IsRunning {K W S Left : Type 0} (meaning : Meaning K Register Left StoreFault)
+    (does : W → Act → W → Type 0) (wire : Wire S) (begun now : Standing K W S) (faults waits : ℕ) : Type 0 where
+  pub held : AreHeld wire now.server.queue.items
+  pub seated : AreSeated now.server.seats.taken now.server.queue.items
+  pub acts : List Act
+  pub done : AreDone does begun.watch acts now.watch
+  pub advances : (start : K) (connections absent : ℕ) (noted : List Note)
+      → GoesOnAs meaning wire start begun.keep connections absent noted begun.server
+      → GoesOnAs meaning wire start now.keep connections (refused_in acts + absent)
+      (noted ++ notes_in acts) now.server
+  pub limits : now.server.limits ≡ begun.server.limits
+  pub wait : IsPatient begun.server.limits now.server.wait
+  pub patient : All (OnWait (IsPatient begun.server.limits)) acts
+  pub failed : faults_after 0 acts ≡ faults
+  pub waited : waits_in acts ≡ waits
 
 All-one : (P : Option Duration → Type 0) (failed : Bool) → All (OnWait P) (Listens failed ∷ [])
 All-one P failed = All-cons (OnWait P) (Listens failed) [] tt (All-nil (OnWait P))

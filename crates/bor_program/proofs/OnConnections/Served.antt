@@ -14,9 +14,9 @@ use Rattle.bor_register.specs.Register.{Register}
 use Rattle.bor_desk.specs.Operations.Legality.{IsLegal}
 use Rattle.bor_wire.specs.Answering.{Responds}
 use Rattle.bor_wire.specs.Sequences.{AreExchanged, Exchanged, IsNext, IsRun, keep_left}
-use Rattle.bor_wire.specs.Turns.{AnswersClean}
+use Rattle.bor_wire.specs.Turns.{AnswersClean, IsTurn}
 use Rattle.bor_wire.proofs.SequenceLaws.{a_run}
-use Rattle.bor_wire.proofs.TurnLaws.{exchanged_more, left_more, next}
+use Rattle.bor_wire.proofs.TurnLaws.{exchanged_more, left_more, next, turn}
 use Rattle.bor_program.specs.declared.log.Note.{Note}
 use Rattle.bor_program.specs.Logging.{IsNoteOf, MayNote}
 use Rattle.bor_program.specs.Connections.Serving.{GivenReply, Answered, AreNotes, Ended, IsServed, IsServedAs, IsServing, Tally, absent_in, answers_in, exchange_of, exchanges_of, has_failed, is_absent, told_in, told_on}
@@ -67,6 +67,7 @@ nothing_served meaning Is keep connections = record {
   ended = [];
   count = omega arith;
   each = tt;
+  turns = All-nil IsTurn;
   answer_clean = All-nil (AnswersClean meaning);
   left = refl;
   told_once = IsPermutation-refl [];
@@ -92,6 +93,7 @@ answers {K} meaning Is old keep new telling tally answer noted before after h no
       ended = h.ended;
       count = h.count;
       each = subst (AreExchanged meaning old) (sym more) each;
+      turns = subst (All IsTurn) (sym more) (All-push IsTurn es (exchange_of one) h.turns (turn meaning keep new answer.request answer.reply responds));
       answer_clean = subst (All (AnswersClean meaning)) (sym more) (All-push (AnswersClean meaning) es (exchange_of one) h.answer_clean responds.up);
       left = ap (keep_left old) more ∙ left_more old es (exchange_of one);
       told_once = subst (λ l. IsPermutation l (answer ∷ telling ++ told_in h.ended)) (sym front) (
@@ -114,6 +116,7 @@ ends meaning Is old keep telling rest tally left more ended h so count gone once
   ended = ended ++ h.ended;
   count = omega (arith, h.count, count, length-append ended h.ended);
   each = h.each;
+  turns = h.turns;
   answer_clean = h.answer_clean;
   left = h.left;
   told_once =
@@ -150,6 +153,7 @@ served_by_any meaning Is old new connections told h = record {
     ended = h.served.ended;
     count = h.served.count;
     each = h.served.each;
+    turns = h.served.turns;
     answer_clean = h.served.answer_clean;
     left = h.served.left;
     told_once = h.served.told_once;

@@ -1,38 +1,22 @@
 -- The facts that are known of a client's stream, read after read and write after write.
-use Rattle.std.proofs.Common.{◌≤◌, arith, ℕ, List, [], ◌++◌, Option, Some, None, length, take, refl, sym, ap, ◌∙◌, append_assoc, append-nil, length-append}
+use Rattle.std.proofs.Common.{◌≤◌, arith, ℕ, List, [], ◌++◌, Option, Some, None, length, take, sym, append-nil, length-append}
 use Rattle.std.specs.Io.KnownBytes.{Appends, Consumes}
-use Rattle.bor_http.specs.Incoming.Head.{head_len}
+use Rattle.std.proofs.KnownBytes.{Consumes-nil, Consumes-trans}
 use Rattle.bor_http.specs.Incoming.Message.{request_limit}
-use Rattle.bor_http.specs.Incoming.Progress.{IsWhole}
-use Rattle.bor_http.proofs.OnIncoming.ProgressLemmas.{missing}
+use Rattle.bor_http.proofs.OnIncoming.ProgressLemmas.{nothing_is_partial}
 use Rattle.bor_wire.specs.Sent.{bytes_sent}
 use Rattle.bor_program.specs.Connections.Serving.{GivenReply}
 use Rattle.bor_program.specs.Connections.Streams.{Came, Drops, IsDraining, IsReady, IsReplySent, IsUnanswered, IsWriting, Wire}
 
-consumes_nothing : (known : Option (List ℕ)) → Consumes known known []
-consumes_nothing None = tt
-consumes_nothing (Some xs) = refl
-
 pub came_new : {S : Type 0} (remaining : S → Option (List ℕ)) (stream : S) → Came remaining stream []
-came_new remaining stream = (stream, consumes_nothing (remaining stream))
-
--- no bytes are no request
-pub nothing_is_partial : IsWhole [] → ⊥
-unfolding head_len
-nothing_is_partial whole = missing [] (omega arith) refl whole
+came_new remaining stream = (stream, Consumes-nil (remaining stream))
 
 -- of this client nothing was read
 pub unanswered_new : {S : Type 0} (remaining : S → Option (List ℕ)) (stream : S) → IsUnanswered remaining []
 unanswered_new remaining stream = record { stream = stream; came = came_new remaining stream; partial = nothing_is_partial; fits = omega arith }
 
-consumes_more : (a b c : Option (List ℕ)) (bs cs : List ℕ) → Consumes a b bs → Consumes b c cs → Consumes a c (bs ++ cs)
-consumes_more None b c bs cs p q = tt
-consumes_more (Some x) None c bs cs p q = absurd p
-consumes_more (Some x) (Some y) None bs cs p q = absurd q
-consumes_more (Some x) (Some y) (Some z) bs cs p q = p ∙ ap (λ l. bs ++ l) q ∙ sym (append_assoc bs cs z)
-
 pub came_more : {S : Type 0} (remaining : S → Option (List ℕ)) (old new : S) (bytes more : List ℕ) → Came remaining old bytes → Consumes (remaining old) (remaining new) more → Came remaining new (bytes ++ more)
-came_more remaining old new bytes more h taken = (h.0, consumes_more (remaining h.0) (remaining old) (remaining new) bytes more h.1 taken)
+came_more remaining old new bytes more h taken = (h.0, Consumes-trans (remaining h.0) (remaining old) (remaining new) bytes more h.1 taken)
 
 pub appends_nothing : (known : Option (List ℕ)) (bytes : List ℕ) → Appends known known (take 0 bytes)
 appends_nothing None bytes = tt
@@ -55,14 +39,14 @@ drains_more wire old new answer before after h more =
     record {
       written = h.written;
       told = h.told;
-      dropped = (first.0 ++ more.0, consumes_more (wire.remaining h.written) (wire.remaining old) (wire.remaining new) first.0 more.0 first.1 more.1, omega (arith, first.2, more.2, length-append first.0 more.0));
+      dropped = (first.0 ++ more.0, Consumes-trans (wire.remaining h.written) (wire.remaining old) (wire.remaining new) first.0 more.0 first.1 more.1, omega (arith, first.2, more.2, length-append first.0 more.0));
     }
 
 -- ---- as the stream is let go
 
 pub told_writing : {S : Type 0} (wire : Wire S) (stream : S) (answer : GivenReply) (sent : ℕ) → IsWriting wire stream answer sent → IsReplySent wire answer sent
 told_writing wire stream answer sent h =
-    record { written = stream; told = h; let_go = stream; dropped = []; behind = consumes_nothing (wire.remaining stream); bound = omega arith }
+    record { written = stream; told = h; let_go = stream; dropped = []; behind = Consumes-nil (wire.remaining stream); bound = omega arith }
 
 pub told_draining : {S : Type 0} (wire : Wire S) (stream : S) (answer : GivenReply) (left : ℕ) → IsDraining wire stream answer left
     → IsReplySent wire answer (length (bytes_sent answer.reply))

@@ -27,9 +27,8 @@ use Rattle.bor_program.specs.Connections.Times.{IsBegun, IsIdleSince, IsOverdue,
 use Rattle.bor_program.specs.Connections.Times.{IsTaking, IsTimeLeft, IsTimeUp, fresh, moves_of}
 use Rattle.bor_program.specs.Connections.Times.{taking_once_read, turns_of}
 use Rattle.bor_program.specs.Connections.Watching.{Act, AreDone, DoesUnwaiting, IsOver, OnWait}
-use Rattle.bor_program.specs.Connections.Watching.{faults_after, is_asking, is_coming}
-use Rattle.bor_program.specs.Connections.Watching.{is_unwatched, notes_in}
-use Rattle.bor_program.specs.Connections.Watching.{refused_in, waits_in}
+use Rattle.bor_program.specs.Connections.Watching.{is_asking, is_coming, is_unwatched, notes_in}
+use Rattle.bor_program.specs.Connections.Watching.{refused_in}
 
 -- the answers that are being sent to these clients
 abbrev pub telling_to : {S : Type 0} → List (Client S) → List GivenReply
@@ -322,25 +321,6 @@ pub record Standing (K W S : Type 0) : Type 0 where
   pub keep : K
   pub watch : W
   pub server : Server S
-
--- The server goes on: these calls were made of its watch, of which so many waits failed last, one
--- after the other, of so many in all.
-pub record IsRunning {K W S Left : Type 0} (meaning : Meaning K Register Left StoreFault)
-    (does : W → Act → W → Type 0) (wire : Wire S) (begun now : Standing K W S)
-    (faults waits : ℕ) : Type 0 where
-  pub held : AreHeld wire now.server.queue.items
-  pub seated : AreSeated now.server.seats.taken now.server.queue.items
-  pub acts : List Act
-  pub done : AreDone does begun.watch acts now.watch
-  pub advances : (start : K) (connections absent : ℕ) (noted : List Note)
-      → GoesOnAs meaning wire start begun.keep connections absent noted begun.server
-      → GoesOnAs meaning wire start now.keep connections (refused_in acts + absent)
-      (noted ++ notes_in acts) now.server
-  pub limits : now.server.limits ≡ begun.server.limits
-  pub wait : IsPatient begun.server.limits now.server.wait
-  pub patient : All (OnWait (IsPatient begun.server.limits)) acts
-  pub failed : faults_after 0 acts ≡ faults
-  pub waited : waits_in acts ≡ waits
 
 -- it went on until all clients came, or it may end
 pub record Runs {K W S Left : Type 0} (meaning : Meaning K Register Left StoreFault)

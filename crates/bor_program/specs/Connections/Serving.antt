@@ -9,7 +9,7 @@ use Rattle.bor_register.specs.Register.{Register}
 use Rattle.bor_desk.specs.Operations.Legality.{IsLegal}
 use Rattle.bor_wire.specs.Sent.{Sent, bytes_sent, status_sent}
 use Rattle.bor_wire.specs.Sequences.{AreExchanged, Exchanged, IsRun, keep_left}
-use Rattle.bor_wire.specs.Turns.{AnswersClean}
+use Rattle.bor_wire.specs.Turns.{AnswersClean, IsTurn}
 use Rattle.bor_program.specs.declared.log.Note.{Note}
 use Rattle.bor_program.specs.Courses.{Course}
 use Rattle.bor_program.specs.Logging.{IsNoteOf}
@@ -110,7 +110,8 @@ pub record Tally : Type 0 where
 -- Of so many connections some have ended, and some are pending, on which these answers are still
 -- being sent. The requests were answered one after the other, each from the keep that the one
 -- before it left. A request has another status than 503 only where the keep after it is clean, if
--- its store has returned what was written by then. Each answer is sent on one connection, and on no
+-- its store has returned what was written by then, and bytes that spell no request have their
+-- refusal, or 503. Each answer is sent on one connection, and on no
 -- other. On so many no client came. `Is` holds of how each connection ended.
 pub record IsServing {K Left : Type 0} (meaning : Meaning K Register Left StoreFault)
     (Is : Ended → Type 0) (old new : K) (telling : List GivenReply) (tally : Tally) : Type 0 where
@@ -118,6 +119,7 @@ pub record IsServing {K Left : Type 0} (meaning : Meaning K Register Left StoreF
   pub ended : List Ended
   pub count : length ended + tally.pending ≡ tally.connections
   pub each : AreExchanged meaning old (exchanges_of answered)
+  pub turns : All IsTurn (exchanges_of answered)
   pub answer_clean : All (AnswersClean meaning) (exchanges_of answered)
   pub left : keep_left old (exchanges_of answered) ≡ new
   pub told_once : IsPermutation (answers_in answered) (telling ++ told_in ended)

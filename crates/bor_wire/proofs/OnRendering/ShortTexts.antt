@@ -31,7 +31,14 @@ use Rattle.bor_http.specs.declared.incoming.fault.Path.{Path}
 use Rattle.bor_http.specs.declared.incoming.fault.Path.TheVariants as paths
 use Rattle.bor_http.specs.Routes.Routes.{allow}
 use Rattle.bor_wire.specs.Rendering.Bodies.{refusal_text}
-use Rattle.bor_wire.specs.Rendering.Parts.{refusal_parts}
+use Rattle.bor_wire.specs.Rendering.Parts.{field_member, place_member}
+
+-- a refusal part by part, as it is written
+unfoldable pub refusal_parts : List ℕ → Option ℕ → Option (List ℕ) → List ℕ
+refusal_parts name place field =
+    codes "{"
+    ++ (field_member field
+    ++ (place_member place ++ (codes "\"refusal\":" ++ (quoted name ++ codes "}"))))
 
 -- what stands last in a refusal
 tail : List ℕ → List ℕ

@@ -1,23 +1,18 @@
 -- Bodies part by part, as they are written: for private clauses.
-use Rattle.std.specs.Prelude.{◌≡◌, ℕ, List, [], ◌++◌, map, Option, Some, None, Result, OnOk, codes}
+use Rattle.std.specs.Prelude.{◌≡◌, ℕ, List, [], ◌++◌, Option, Some, None, Result, OnOk, codes}
 use Rattle.std.specs.Prelude.{decimal}
 use Rattle.json.specs.Print.{quoted}
 use Rattle.json.specs.Token.{Token}
-use Rattle.json.specs.Tree.{json_tokens, items_tokens}
+use Rattle.json.specs.Tree.{json_tokens}
 use Rattle.json.specs.Written.{Written}
 use Rattle.serde_json.specs.Data.{Data}
-use Rattle.serde_json.specs.View.{items_of}
-use Rattle.serde_json.specs.Written.{outline, items_outline}
+use Rattle.serde_json.specs.Written.{outline}
 
 -- ---- token by token
 
 -- the tokens of a value of JSON
 abbrev pub data_tokens : Data → List Token
 data_tokens d = json_tokens (outline d)
-
--- the rest of the tokens of an array, with the closing bracket
-abbrev pub rest_tokens : {A : Type 0} → (A → Data) → List A → List Token
-rest_tokens shown items = items_tokens (items_outline (items_of (map shown items)))
 
 -- These tokens were written behind the others, and what stands before them all stays.
 pub record WritesBehind {E : Type 0} (result : Result (Unit {0}) E) (old new : Written)
@@ -34,9 +29,3 @@ field_member (Some field) = codes "\"field\":" ++ (quoted field ++ codes ",")
 abbrev pub place_member : Option ℕ → List ℕ
 place_member None = []
 place_member (Some place) = codes "\"place\":" ++ (decimal place ++ codes ",")
-
-unfoldable pub refusal_parts : List ℕ → Option ℕ → Option (List ℕ) → List ℕ
-refusal_parts name place field =
-    codes "{"
-    ++ (field_member field
-    ++ (place_member place ++ (codes "\"refusal\":" ++ (quoted name ++ codes "}"))))

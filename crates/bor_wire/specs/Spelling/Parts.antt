@@ -4,12 +4,12 @@ use Rattle.std.specs.Prelude.{ℕ, ℤ, ◌==◌, Bool, List, [], ◌∷◌, tak
 use Rattle.std.specs.Prelude.{option_and_then, option_map, if◌then◌else◌, codes}
 use Rattle.std.specs.Char.{to_ascii_lowercase}
 use Rattle.std.specs.Str.{bytes_eq, is_utf8}
-use Rattle.form_urlencoded.specs.Form.{split_once}
 use Rattle.bor_terms.specs.Texts.{is_agent_name, is_lodge_key, is_ident, is_token}
 use Rattle.bor_terms.specs.Day.{day_of}
 use Rattle.bor_http.specs.declared.incoming.fault.Path.{Path}
 use Rattle.bor_http.specs.declared.incoming.fault.Name.{Name}
 use Rattle.bor_http.specs.declared.incoming.fault.Name.TheVariants as names
+use Rattle.bor_http.specs.Incoming.Splitting.{before_byte, behind_byte}
 use Rattle.bor_http.specs.Incoming.Words.{name_word}
 use Rattle.bor_http.specs.Incoming.Message.{Message, FieldText, only_value}
 use Rattle.bor_http.specs.declared.routes.route.Route.{Route}
@@ -28,10 +28,10 @@ text_in fits bytes = if is_utf8 bytes then fitting fits bytes else None
 -- ---- the target: what stands before its first question mark, and behind it
 
 abbrev pub path_text : Message → List ℕ
-path_text m = (split_once 63 m.parts.target).0
+path_text m = before_byte 63 m.parts.target
 
 abbrev pub query : Message → List TextPair
-query m = pairs_of (split_once 63 m.parts.target).1
+query m = pairs_of (behind_byte 63 m.parts.target)
 
 -- the path that a text in UTF-8 is
 unfoldable pub path_spelled : List ℕ → Option Path
@@ -78,7 +78,7 @@ at_most_once read name pairs =
 
 -- the key: the segment of the path behind "/filings/"
 unfoldable pub key_in : List ℕ → Option (List ℕ)
-key_in path = text_in is_lodge_key (split_once 47 (drop 9 path)).0
+key_in path = text_in is_lodge_key (before_byte 47 (drop 9 path))
 
 abbrev pub key : Message → Option (List ℕ)
 key m = key_in (path_text m)

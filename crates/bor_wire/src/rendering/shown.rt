@@ -5,7 +5,7 @@ ghost use Rattle.json.specs.Token.{key, string};
 ghost use Rattle.serde_json.specs.Data.{Data, string as text_data};
 ghost use Rattle.bor_terms.specs.Day.{day_text};
 ghost use Rattle.bor_wire.specs.Rendering.Values.{list_data, maybe_data, day_data};
-ghost use Rattle.bor_wire.specs.Rendering.Parts.{WritesBehind, data_tokens, rest_tokens};
+ghost use Rattle.bor_wire.specs.Rendering.Parts.{WritesBehind, data_tokens};
 
 use bor_terms::{Day, Form, Text};
 use json::Writer;

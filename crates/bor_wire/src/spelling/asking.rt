@@ -5,12 +5,12 @@ ghost use Rattle.bor_wire.specs.Spelling.Steps.{FindsStated, enrolment_by_steps,
 
 use crate::spelling::name::{agent_named, day_if_named, day_named, ident_named, text_named};
 use crate::spelling::query::{QueryPair, query_pairs};
-use crate::spelling::target::{key_at, name_at, path_at, split_at_first};
+use crate::spelling::target::{key_at, name_at, path_at};
 use crate::spelling::token::{new_token, token_at};
 use bods_read::Identifier;
 use bor_chains::Node;
 use bor_desk::Request;
-use bor_http::incoming::{Name, RawRequest, Refusal, WireFault, message_in};
+use bor_http::incoming::{Name, RawRequest, Refusal, WireFault, message_in, split_at_first};
 use bor_http::routes::{Paths, Route, route_at};
 use bor_terms::{Listed, Token};
 use std::alloc::Global;

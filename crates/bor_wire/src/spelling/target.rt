@@ -1,26 +1,14 @@
 //! The path and the query of a target, and the key or the name in a path.
 ghost use Rattle.std.specs.Prelude.{◌≡◌, drop};
-ghost use Rattle.form_urlencoded.specs.Form.{split_once};
 ghost use Rattle.bor_http.specs.declared.incoming.fault.Refusal.TheVariants.{NoPath};
 ghost use Rattle.bor_http.specs.declared.incoming.fault.Name.TheVariants as names;
 ghost use Rattle.bor_wire.specs.Spelling.Parts.{path_spelled, key_in, name_in};
 ghost use Rattle.bor_wire.specs.Spelling.Steps.{FindsStated, or_refuse, named};
 
-use bor_http::incoming::{Name, Path, Refusal, WireFault};
+use bor_http::incoming::{Name, Path, Refusal, WireFault, split_at_first};
 use bor_http::routes::Paths;
 use bor_terms::{AgentName, LodgeKey};
 use std::alloc::Global;
-
-/// The bytes before the first one that is this, and those behind it.
-pub(crate) fn split_at_first(bytes: &[u8], byte: u8) -> (&[u8], &[u8])
-    ensures before { result.0.now ≡ (split_once byte bytes.now).0 }
-    ensures behind { result.1.now ≡ (split_once byte bytes.now).1 }
-{
-    match bytes.iter().position(|b| *b == byte) {
-        Some(i) => (&bytes[..i], &bytes[i + 1..]),
-        None => (bytes, &[]),
-    }
-}
 
 /// The path that bytes are.
 pub(crate) fn path_at(paths: &Paths, text: &[u8]) -> Result<Path, WireFault>

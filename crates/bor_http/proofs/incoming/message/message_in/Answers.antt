@@ -9,19 +9,19 @@ use Rattle.bor_http.proofs.incoming.message.message_in.Goals as goal
 pub returns-then-input-lt-HEAD_LIMIT : goal.returns-then-input-lt-HEAD_LIMIT
 returns-then-input-lt-HEAD_LIMIT c =
     let input = c.args.input.now in
-    none_short input (ap head_len (front_is input c.min.result c.min.ensures) ∙ sym c.in_default.ensures.value) c.if-input-lt-HEAD_LIMIT.true
+    record { reading = none_short input (ap head_len (front_is input c.min.result c.min.ensures) ∙ sym c.in_default.ensures.value) c.if-input-lt-HEAD_LIMIT.true }
 
 pub returns-in_default : goal.returns-in_default
 returns-in_default c =
     let input = c.args.input.now in
-    none_long input (ap head_len (front_is input c.min.result c.min.ensures) ∙ sym c.in_default.ensures.value) (omega (arith, c.if-input-lt-HEAD_LIMIT.false))
+    record { reading = none_long input (ap head_len (front_is input c.min.result c.min.ensures) ∙ sym c.in_default.ensures.value) (omega (arith, c.if-input-lt-HEAD_LIMIT.false)) }
 
 pub returns-then-not-has_few_lines : goal.returns-then-not-has_few_lines
 returns-then-not-has_few_lines c =
     let input = c.args.input.now in
     let n = c.in-Some.len in
     let head : head_len (take head_limit input) ≡ Some n = ap head_len (front_is input c.min.result c.min.ensures) ∙ sym c.in-Some.ensures.value in
-    many input n head (rw (← c.split_at.ensures.front) (sym c.has_few_lines.ensures ∙ c.if-not-has_few_lines.true))
+    record { reading = many input n head (rw (← c.split_at.ensures.front) (sym c.has_few_lines.ensures ∙ c.if-not-has_few_lines.true)) }
 
 pub returns-in_err-spans : goal.returns-in_err-spans
 returns-in_err-spans c =
@@ -30,7 +30,7 @@ returns-in_err-spans c =
     let n = c.in-Some.len in
     let head : head_len (take head_limit input) ≡ Some n = ap head_len (front_is input c.min.result c.min.ensures) ∙ sym c.in-Some.ensures.value in
     let few : not (nat_lt line_limit (line_feeds (take n input))) ≡ true = rw (← c.split_at.ensures.front) (sym c.has_few_lines.ensures ∙ c.if-not-has_few_lines.false) in
-    rw (p.1, p.2) (bad_head input n c.in_err-spans.field-0.0 head few (rw c.split_at.ensures.front at c.in_err-spans.ensures.parts))
+    rw (p.1, p.2) (record { reading = bad_head input n c.in_err-spans.field-0.0 head few (rw c.split_at.ensures.front at c.in_err-spans.ensures.parts) })
 
 pub returns-in_err-wanted : goal.returns-in_err-wanted
 returns-in_err-wanted c =
@@ -43,7 +43,7 @@ returns-in_err-wanted c =
     let parts : Parts = parts_at (take n input) s.method s.target s.fields.items in
     let has : HasParts (take n input) (Ok parts) = rw c.split_at.ensures.front at c.in_ok-spans.ensures.parts in
     let bad : body_len parts.fields ≡ Err c.in_err-wanted.field-0.0 = rw (c.split_at.ensures.front, c.deref.ensures.value) at (sym c.in_err-wanted.ensures) in
-    rw (p.1, p.2) (bad_length input n parts c.in_err-wanted.field-0.0 head few has bad)
+    rw (p.1, p.2) (record { reading = bad_length input n parts c.in_err-wanted.field-0.0 head few has bad })
 
 pub returns-then-behind-wanted : goal.returns-then-behind-wanted
 returns-then-behind-wanted c =
@@ -55,7 +55,7 @@ returns-then-behind-wanted c =
     let parts : Parts = parts_at (take n input) s.method s.target s.fields.items in
     let has : HasParts (take n input) (Ok parts) = rw c.split_at.ensures.front at c.in_ok-spans.ensures.parts in
     let is : body_len parts.fields ≡ Ok c.in_ok-wanted.wanted = rw (c.split_at.ensures.front, c.deref.ensures.value) at (sym c.in_ok-wanted.ensures) in
-    short input n c.in_ok-wanted.wanted parts head few has is (omega (arith, ap length c.split_at.ensures.back, c.if-behind-wanted.true))
+    record { reading = short input n c.in_ok-wanted.wanted parts head few has is (omega (arith, ap length c.split_at.ensures.back, c.if-behind-wanted.true)) }
 
 pub returns : goal.returns
 returns c =
@@ -67,4 +67,4 @@ returns c =
     let parts : Parts = parts_at (take n input) s.method s.target s.fields.items in
     let has : HasParts (take n input) (Ok parts) = rw c.split_at.ensures.front at c.in_ok-spans.ensures.parts in
     let is : body_len parts.fields ≡ Ok c.in_ok-wanted.wanted = rw (c.split_at.ensures.front, c.deref.ensures.value) at (sym c.in_ok-wanted.ensures) in
-    rw (c.split_at.ensures.front, c.split_at.ensures.back) (whole input n c.in_ok-wanted.wanted parts head few has is (omega (arith, ap length c.split_at.ensures.back, c.if-behind-wanted.false)))
+    rw (c.split_at.ensures.front, c.split_at.ensures.back) (record { reading = whole input n c.in_ok-wanted.wanted parts head few has is (omega (arith, ap length c.split_at.ensures.back, c.if-behind-wanted.false)) })

@@ -1,16 +1,17 @@
-use Rattle.std.proofs.Common.{◌≡◌, ◌≤◌, ◌<◌, ◌+◌, ◌++◌, ◌∙◌, ◌==◌, ℕ, [], false, length, ap, refl, arith, length-append}
-use Rattle.std.proofs.KnownBytes.{Consumes-nil, Consumes-trans}
+use Rattle.std.proofs.Common.{◌≡◌, ◌<◌, ◌∙◌, ◌==◌, ℕ, [], false, length, ap, refl, arith, length-append}
+use Rattle.std.proofs.KnownBytes.{Consumes-nil}
+use Rattle.std.proofs.lemmas.Result.{err_from_is_err_and}
 use Rattle.std.proofs.lemmas.Bool.Decides.{nat_tests}
 use Rattle.bor_http.specs.Incoming.Progress.{needs}
-use Rattle.bor_http.proofs.OnIncoming.Gathered.{not_reached, read_fits, whole_says}
-use Rattle.bor_http.proofs.OnIncoming.ProgressLemmas.{progress_kept}
+use Rattle.bor_http.proofs.OnIncoming.Gathered.{come_more, not_reached, taken_more, unread_more, whole_says}
+use Rattle.bor_http.proofs.OnIncoming.ProgressLemmas.{nothing_is_partial, progress_kept}
 use Rattle.bor_http.proofs.incoming.request.read_request.Goals as goal
 
 pub read-init : goal.read-init
 read-init g c = rw c.new-received.ensures.items (record {
   consumed = Consumes-nil (g.R.Read.remaining c.args.reader.now.inner);
   known = c.none-progress.ensures.known [];
-  whole = λ le. absurd (omega (arith, c.none-progress.ensures.needs, le));
+  whole = (λ le. absurd (omega (arith, c.none-progress.ensures.needs, le)), λ is. absurd (nothing_is_partial is));
   fits = omega arith;
   faults = refl;
   on = λ h. h;
@@ -19,15 +20,32 @@ read-init g c = rw c.new-received.ensures.items (record {
 
 pub returns-in_err-read_more-clause-taken : goal.returns-in_err-read_more-clause-taken
 returns-in_err-read_more-clause-taken g c =
-    let received = c.read.received.items in
-    let piece = c.in_err-read_more.ensures.piece in
-    let less : length received < needs c.read.progress =
-    not_reached (needs c.read.progress) (length received) c.len.result c.is_whole.result c.is_whole.ensures c.read-test.true (omega (arith, c.len.ensures)) in
-    let within : length received + length piece.bytes ≤ needs c.read.progress = omega (arith, less, piece.within, c.wanted-wanted.ensures, c.len-in-read.ensures) in (
-      received ++ piece.bytes,
-      Consumes-trans _ _ _ received piece.bytes c.read.invariant.consumed piece.consumed,
-      read_fits received piece.bytes c.read.progress c.read.invariant.known less within,
-    )
+    let less : length c.read.received.items < needs c.read.progress =
+    not_reached _ _ c.len.result c.is_whole.result c.is_whole.ensures c.read-test.true (omega (arith, c.len.ensures)) in
+    taken_more _ _ _ c.read.received.items _ c.read.progress c.wanted-wanted.result c.read.invariant.consumed c.read.invariant.known less (omega (arith, c.wanted-wanted.ensures, c.len-in-read.ensures)) _
+    c.in_err-read_more.ensures.piece
+
+pub returns-in_err-read_more-clause-fault : goal.returns-in_err-read_more-clause-fault
+returns-in_err-read_more-clause-fault g c =
+    let less : length c.read.received.items < needs c.read.progress =
+    not_reached _ _ c.len.result c.is_whole.result c.is_whole.ensures c.read-test.true (omega (arith, c.len.ensures)) in
+    let p = err_from_is_err_and c.from_residual.result c.from_residual.ensures.1 in
+    rw (p.1, p.2) (unread_more _ _ _ c.read.received.items _ c.read.progress c.wanted-wanted.result c.read.invariant.consumed c.read.invariant.known less (omega (arith, c.wanted-wanted.ensures, c.len-in-read.ensures))
+    c.in_err-read_more.field-0.0 c.read.invariant.whole.1 c.in_err-read_more.ensures.piece)
+
+pub returns-then-branch-eq0-clause-bytes : goal.returns-then-branch-eq0-clause-bytes
+returns-then-branch-eq0-clause-bytes g c =
+    let less : length c.read.received.items < needs c.read.progress =
+    not_reached _ _ c.len.result c.is_whole.result c.is_whole.ensures c.read-test.true (omega (arith, c.len.ensures)) in
+    come_more _ _ _ c.read.received.items _ c.read.progress c.wanted-wanted.result c.read.invariant.consumed c.read.invariant.known less (omega (arith, c.wanted-wanted.ensures, c.len-in-read.ensures)) _
+    c.in_ok-read_more.ensures.piece
+
+pub returns-then-branch-eq0-clause-taken : goal.returns-then-branch-eq0-clause-taken
+returns-then-branch-eq0-clause-taken g c =
+    let less : length c.read.received.items < needs c.read.progress =
+    not_reached _ _ c.len.result c.is_whole.result c.is_whole.ensures c.read-test.true (omega (arith, c.len.ensures)) in
+    taken_more _ _ _ c.read.received.items _ c.read.progress c.wanted-wanted.result c.read.invariant.consumed c.read.invariant.known less (omega (arith, c.wanted-wanted.ensures, c.len-in-read.ensures)) _
+    c.in_ok-read_more.ensures.piece
 
 pub after-requires-clause-known : goal.after-requires-clause-known
 after-requires-clause-known g c =
@@ -36,39 +54,31 @@ after-requires-clause-known g c =
 
 pub returns-in_err-progress-clause-taken : goal.returns-in_err-progress-clause-taken
 returns-in_err-progress-clause-taken g c =
-    let received = c.read.received.items in
-    let piece = c.in_ok-read_more.ensures.piece in
-    let less : length received < needs c.read.progress =
-    not_reached (needs c.read.progress) (length received) c.len.result c.is_whole.result c.is_whole.ensures c.read-test.true (omega (arith, c.len.ensures)) in
-    let within : length received + length piece.bytes ≤ needs c.read.progress = omega (arith, less, piece.within, c.wanted-wanted.ensures, c.len-in-read.ensures) in (
-      received ++ piece.bytes,
-      Consumes-trans _ _ _ received piece.bytes c.read.invariant.consumed piece.consumed,
-      read_fits received piece.bytes c.read.progress c.read.invariant.known less within,
-    )
+    let less : length c.read.received.items < needs c.read.progress =
+    not_reached _ _ c.len.result c.is_whole.result c.is_whole.ensures c.read-test.true (omega (arith, c.len.ensures)) in
+    taken_more _ _ _ c.read.received.items _ c.read.progress c.wanted-wanted.result c.read.invariant.consumed c.read.invariant.known less (omega (arith, c.wanted-wanted.ensures, c.len-in-read.ensures)) _
+    c.in_ok-read_more.ensures.piece
 
 pub read-smaller : goal.read-smaller
 read-smaller g c =
-    let received = c.read.received.items in
+    let less : length c.read.received.items < needs c.read.progress =
+    not_reached _ _ c.len.result c.is_whole.result c.is_whole.ensures c.read-test.true (omega (arith, c.len.ensures)) in
     let piece = c.in_ok-read_more.ensures.piece in
-    let less : length received < needs c.read.progress =
-    not_reached (needs c.read.progress) (length received) c.len.result c.is_whole.result c.is_whole.ensures c.read-test.true (omega (arith, c.len.ensures)) in
-    let within : length received + length piece.bytes ≤ needs c.read.progress = omega (arith, less, piece.within, c.wanted-wanted.ensures, c.len-in-read.ensures) in
-    let fits = read_fits received piece.bytes c.read.progress c.read.invariant.known less within in
-    omega (arith, fits, length-append received piece.bytes, ap length piece.came.0, piece.came.1, c.if-branch-eq0.false)
+    let come = come_more _ _ _ c.read.received.items _ c.read.progress c.wanted-wanted.result c.read.invariant.consumed c.read.invariant.known less (omega (arith, c.wanted-wanted.ensures, c.len-in-read.ensures)) _ piece in
+    omega (arith, come.0, length-append c.read.received.items piece.bytes, ap length piece.came.0, piece.came.1, c.if-branch-eq0.false)
 
 pub read-preserved : goal.read-preserved
 read-preserved g c =
-    let received = c.read.received.items in
-    let piece = c.in_ok-read_more.ensures.piece in
-    let less : length received < needs c.read.progress =
-    not_reached (needs c.read.progress) (length received) c.len.result c.is_whole.result c.is_whole.ensures c.read-test.true (omega (arith, c.len.ensures)) in
-    let within : length received + length piece.bytes ≤ needs c.read.progress = omega (arith, less, piece.within, c.wanted-wanted.ensures, c.len-in-read.ensures) in
+    let less : length c.read.received.items < needs c.read.progress =
+    not_reached _ _ c.len.result c.is_whole.result c.is_whole.ensures c.read-test.true (omega (arith, c.len.ensures)) in
+    let come = come_more _ _ _ c.read.received.items _ c.read.progress c.wanted-wanted.result c.read.invariant.consumed c.read.invariant.known less (omega (arith, c.wanted-wanted.ensures, c.len-in-read.ensures)) _
+    c.in_ok-read_more.ensures.piece in
     let gives : (n : ℕ) → (n ≡ 0 → ⊥) → (n == 0) ≡ false = λ n some. grind (arith, nat_tests) in
     record {
-      consumed = rw piece.came.0 (Consumes-trans _ _ _ received piece.bytes c.read.invariant.consumed piece.consumed);
+      consumed = come.1;
       known = rw c.deref.ensures.value at c.in_ok-progress.ensures.known;
-      whole = (rw c.deref.ensures.value at c.in_ok-progress.ensures.whole).0;
-      fits = rw piece.came.0 (read_fits received piece.bytes c.read.progress c.read.invariant.known less within);
+      whole = rw c.deref.ensures.value at c.in_ok-progress.ensures.whole;
+      fits = come.0;
       faults = c.in_ok-read_more.ensures.faults ∙ c.read.invariant.faults;
       on = λ was. c.in_ok-read_more.ensures.over ∙ gives c.in_ok-read_more.field-0 c.if-branch-eq0.false;
       late = λ was. c.in_ok-read_more.ensures.late (c.read.invariant.on was) ∙ c.read.invariant.late was;
@@ -76,4 +86,4 @@ read-preserved g c =
 
 pub returns-clause-request : goal.returns-clause-request
 returns-clause-request g c =
-    whole_says _ _ c.read.received.items c.read.invariant.consumed (c.read.invariant.whole (omega (arith, c.len.ensures, c.is_whole.ensures.0 c.read-test.false)))
+    whole_says _ _ c.read.received.items c.read.invariant.consumed (c.read.invariant.whole.0 (omega (arith, c.len.ensures, c.is_whole.ensures.0 c.read-test.false)))

@@ -1,5 +1,5 @@
-use Rattle.bor_program.specs.Connections.Servers.{IsRunning}
 use Rattle.bor_program.specs.Connections.Streams.{wire_of}
+use Rattle.bor_program.proofs.OnConnections.Running.{IsRunning}
 use Rattle.bor_program.proofs.connections.serving.run.Given as goal
 
 abbrev pub invariant-loop : goal.invariant-loop

@@ -1,6 +1,5 @@
 use Rattle.std.proofs.Common.{append_assoc}
-use Rattle.bor_wire.specs.Rendering.Parts.{refusal_parts}
-use Rattle.bor_wire.proofs.OnRendering.ShortTexts.{refusal_is}
+use Rattle.bor_wire.proofs.OnRendering.ShortTexts.{refusal_is, refusal_parts}
 use Rattle.bor_wire.proofs.rendering.short.put_refusal.Goals as goal
 
 pub returns-clause-items : goal.returns-clause-items

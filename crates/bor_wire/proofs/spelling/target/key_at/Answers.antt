@@ -1,17 +1,17 @@
 use Rattle.std.proofs.Common.{◌≡◌, ap, sym, ◌∙◌, List, ℕ, Option, drop}
-use Rattle.form_urlencoded.specs.Form.{split_once}
 use Rattle.bor_terms.specs.Texts.{is_lodge_key}
 use Rattle.bor_http.specs.declared.incoming.fault.Name.TheVariants.{Key}
+use Rattle.bor_http.specs.Incoming.Splitting.{before_byte}
 use Rattle.bor_wire.specs.Spelling.Parts.{fitting, text_in, key_in}
 use Rattle.bor_wire.specs.Spelling.Steps.{named}
 use Rattle.bor_wire.proofs.OnSpelling.Texts.{text_in-text, text_in-other}
 use Rattle.bor_wire.proofs.spelling.target.key_at.Goals as goal
 
-key_in-at : (path behind segment : List ℕ) (key : Option (List ℕ)) → behind ≡ drop 9 path → segment ≡ (split_once 47 behind).0
+key_in-at : (path behind segment : List ℕ) (key : Option (List ℕ)) → behind ≡ drop 9 path → segment ≡ before_byte 47 behind
     → text_in is_lodge_key segment ≡ key → named Key (key_in path) ≡ named Key key
 unfolding key_in
 key_in-at path behind segment key b s k =
-    ap (named Key) (ap (text_in is_lodge_key) (sym (s ∙ ap (λ xs. (split_once 47 xs).0) b)) ∙ k)
+    ap (named Key) (ap (text_in is_lodge_key) (sym (s ∙ ap (λ xs. before_byte 47 xs) b)) ∙ k)
 
 pub returns-in_default : goal.returns-in_default
 returns-in_default c =

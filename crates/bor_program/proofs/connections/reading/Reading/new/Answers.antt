@@ -1,5 +1,6 @@
 use Rattle.std.proofs.Common.{arith, []}
-use Rattle.bor_program.proofs.OnConnections.Streams.{came_new, nothing_is_partial}
+use Rattle.bor_http.proofs.OnIncoming.ProgressLemmas.{nothing_is_partial}
+use Rattle.bor_program.proofs.OnConnections.Streams.{came_new}
 use Rattle.bor_program.proofs.connections.reading.Reading.new.Goals as goal
 
 pub returns-clause-held : goal.returns-clause-held

@@ -1,2 +1,0 @@
--- Fields by name, and the test of names.
-use Rattle.std.proofs.Common.{◌≡◌, ◌<◌, ℕ, ◌+◌, [], ◌∷◌, ◌∙◌}

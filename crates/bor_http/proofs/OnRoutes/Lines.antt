@@ -1,0 +1,56 @@
+-- The lines of the table of routes, as the code has them.
+use Rattle.std.proofs.Common.{◌≡◌, ◌<◌, ℕ, zero, suc, drop, length, slice_index_or, arith, List, [], ◌∷◌, ◌&&◌, Bool, true, false, Option, Some, None, refl, sym, ap, ◌∙◌}
+use Rattle.std.specs.Prelude.{if◌then◌else◌}
+use Rattle.std.specs.Borrow.{Bor}
+use Rattle.std.specs.Str.{bytes_eq}
+use Rattle.std.proofs.lemmas.Slice.Eq.{bytes_eq-Decides}
+use Rattle.bor_http.specs.declared.incoming.fault.Path.{Path}
+use Rattle.bor_http.specs.declared.incoming.fault.Path.TheVariants as paths
+use Rattle.bor_http.specs.Incoming.Words.{path_word}
+use Rattle.bor_http.specs.declared.routes.route.Route.{Route}
+use Rattle.bor_http.specs.Routes.Routes.{is_same_path}
+use Rattle.bor_http.specs.Routes.Paths.{path_of}
+
+-- the route of the first of them that has the path and the method
+abbrev pub route_in : List (Path × Bor (List ℕ) × Route) → Path → List ℕ → Option Route
+route_in [] path method = None
+route_in (line ∷ lines) path method =
+    if is_same_path line.0 path && bytes_eq line.1.now method then Some line.2 else route_in lines path method
+
+-- one that has not both is passed over
+pub passed : (lines : List (Path × Bor (List ℕ) × Route)) (i : ℕ) (other : Path × Bor (List ℕ) × Route) (path : Path) (method : List ℕ) → i < length lines
+    → (is_same_path (slice_index_or lines i other).0 path && bytes_eq (slice_index_or lines i other).1.now method) ≡ false
+    → route_in (drop (suc i) lines) path method ≡ route_in (drop i lines) path method
+passed [] i other path method lt isnt = absurd (omega (arith, lt))
+passed (line ∷ lines) zero other path method lt isnt = rw isnt refl
+passed (line ∷ lines) (suc i) other path method lt isnt = passed lines i other path method (omega (arith, lt)) isnt
+
+-- ---- paths are the same that are written alike
+
+word_back : (path : Path) → path_of (path_word path) ≡ Some path
+unfolding path_of
+word_back paths.Filing = refl
+word_back paths.Filings = refl
+word_back paths.File = refl
+word_back paths.Published = refl
+word_back paths.Snapshot = refl
+word_back paths.Chains = refl
+word_back paths.Evidence = refl
+word_back paths.Entities = refl
+word_back paths.Day = refl
+word_back paths.Agents = refl
+word_back paths.Agent = refl
+word_back paths.Register = refl
+
+pub same_path : (path : Path) → is_same_path path path ≡ true
+same_path path = (bytes_eq-Decides (path_word path) (path_word path)).1 refl
+
+pub other_path : (a b : Path) → (a ≡ b → ⊥) → is_same_path a b ≡ false
+other_path a b other = by_words (is_same_path a b) refl
+  where
+    by_words : (same : Bool) → is_same_path a b ≡ same → same ≡ false
+    by_words true is =
+        let words : path_word a ≡ path_word b = (bytes_eq-Decides (path_word a) (path_word b)).0 is in
+        let both : Some a ≡ Some b = sym (word_back a) ∙ ap path_of words ∙ word_back b in
+        absurd (other cc)
+    by_words false is = refl

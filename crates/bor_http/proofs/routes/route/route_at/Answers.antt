@@ -1,0 +1,7 @@
+use Rattle.std.proofs.Common.{◌∙◌, sym, rules, add-one}
+use Rattle.bor_http.proofs.OnRoutes.Lines.{passed}
+use Rattle.bor_http.proofs.routes.route.route_at.Goals as goal
+
+pub loop-line-preserved : goal.loop-line-preserved
+loop-line-preserved c =
+    rw add-one (passed _ c.loop-line.line-index _ c.args.path c.args.method.now (search rules) (sym c.has_both.ensures ∙ c.if-has_both.false) ∙ c.loop-line.invariant)
