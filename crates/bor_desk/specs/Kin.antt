@@ -1,6 +1,8 @@
 -- The entities of a class by their signs, as the search for ways knows them; for clauses of private
 -- functions alone.
-use Rattle.std.specs.Prelude.{◌≡◌, ◌⊎◌, List, Contains, Some}
+use Rattle.std.specs.Prelude.{◌≡◌, ◌⊎◌, List, [], Contains, Option, None, Some}
+use Rattle.std.specs.BTreeMap.{get}
+use Rattle.std.proofs.Common.{Vec, Global}
 use Rattle.bor_records.specs.declared.links.node.Node.{Node}
 use Rattle.bor_records.specs.declared.links.node.OpenNode.{OpenNode}
 use Rattle.bor_records.specs.declared.links.sign.Sign.{Sign}
@@ -15,8 +17,13 @@ use Rattle.bor_desk.specs.Memory.Indexed.{under}
 abbrev pub HasSignAt : Shown → Node → Sign → Type 0
 HasSignAt s n k = (x : OpenNode) × (listed_at s.nodes n ≡ Some x) × HasSign x k
 
+-- the signs of an entity that was added
+abbrev pub signs_under : Option (Vec Sign Global) → List Sign
+signs_under None = []
+signs_under (Some v) = v.items
+
 abbrev pub signs_in : Kin → Node → List Sign
-signs_in kin n = under node_cmp kin.signs n
+signs_in kin n = signs_under (get node_cmp kin.signs n)
 
 abbrev pub signed_in : Kin → Sign → List Node
 signed_in kin k = under sign_cmp kin.signed k

@@ -1,6 +1,7 @@
 -- The entities of a class by their signs.
 use Rattle.std.proofs.Common.{◌≡◌, ◌⊎◌, ◌&&◌, ◌||◌, not, ◌++◌, ◌<◌, ◌+◌, ℕ, ℤ, option_and_then, Bool, true, false, cond, Option, Some, None, List, [], ◌∷◌, Contains, IsTrue, length, take, get_or, sym, refl, ap, ◌∙◌, subst, inl, inr, Vec, Global}
-use Rattle.std.specs.BTreeMap.{BTreeMap, IsEmpty, get}
+use Rattle.std.specs.BTreeMap.{BTreeMap, IsEmpty, get, is_at}
+use Rattle.std.specs.Map.{lookup}
 use Rattle.std.specs.Ordering.{is_eq}
 use Rattle.std.specs.declared.cmp.Ordering.{Ordering}
 use Rattle.std.proofs.lemmas.Cmp.{tied_itself}
@@ -27,7 +28,8 @@ use Rattle.bor_records.proofs.OnLinks.Listed.{found_is}
 use Rattle.bor_records.proofs.OnLinks.Sames.{alias_turn, same_turn}
 use Rattle.bor_records.proofs.OnLinks.Signs.{in_common, common_alike}
 use Rattle.bor_desk.specs.declared.evidence.kin.Kin.{Kin}
-use Rattle.bor_desk.specs.Kin.{AreKin, AreTaken, HasSignAt, IsKinOf, NoneFound, signed_in, signs_in}
+use Rattle.bor_desk.specs.Kin.{AreKin, AreTaken, HasSignAt, IsKinOf, NoneFound, signed_in, signs_in, signs_under}
+use Rattle.bor_desk.specs.declared.memory.values.Values.{Values}
 use Rattle.bor_desk.specs.Memory.Indexed.{IsNoted, values_under, under}
 use Rattle.bor_desk.proofs.OnMemory.Indexed.{empty_under}
 
@@ -77,21 +79,21 @@ taken_next ks i k a b c u v w lt at one two =
     subst (λ (js : List Sign). AreTaken js a c u w) (ap (λ (z : Sign). take i ks ++ z ∷ []) at ∙ sym (take_more ks i k lt)) (taken_more (take i ks) (k ∷ []) a b c u v w one two)
 
 -- what a sign leads to is taken
-pub taken_one : (m less : BTreeMap Sign (Vec Node Global)) (k : Sign) (o : Option (Vec Node Global)) (was now : List Node) → o ≡ get sign_cmp m k → ((q : Sign) → get sign_cmp less q ≡ cond (is_eq (sign_cmp k q)) None (get sign_cmp m q))
+pub taken_one : (m less : BTreeMap Sign (Values Node)) (k : Sign) (o : Option (Values Node)) (was now : List Node) → o ≡ get sign_cmp m k → ((q : Sign) → get sign_cmp less q ≡ cond (is_eq (sign_cmp k q)) None (get sign_cmp m q))
     → now ≡ was ++ values_under o → AreTaken (k ∷ []) (under sign_cmp m) (under sign_cmp less) was now
 taken_one m less k o was now found removed more = record {
   kept = λ n h. subst (λ (ns : List Node). Contains ns n) (sym more) (Contains-append_left was (values_under o) n h);
   each = λ n h. elim (Contains-append_cases was (values_under o) n (subst (λ (ns : List Node). Contains ns n) more h)) [
     | inl old ↦ inl old
-    | inr new ↦ inr (k, here k [], subst (λ (p : Option (Vec Node Global)). Contains (values_under p) n) found new)
+    | inr new ↦ inr (k, here k [], subst (λ (p : Option (Values Node)). Contains (values_under p) n) found new)
   ];
   every = λ j n on there. new n (subst (λ (z : Sign). Contains (under sign_cmp m z) n) (sym (one_of k j on)) there);
-  stays = λ j n h. stays j n (is_eq (sign_cmp k j)) (subst (λ (p : Option (Vec Node Global)). Contains (values_under p) n) (removed j) h);
+  stays = λ j n h. stays j n (is_eq (sign_cmp k j)) (subst (λ (p : Option (Values Node)). Contains (values_under p) n) (removed j) h);
   left = λ j n h. left j n (is_eq (sign_cmp k j)) refl h;
 }
   where
     new : (n : Node) → Contains (under sign_cmp m k) n → Contains now n
-    new n h = subst (λ (ns : List Node). Contains ns n) (sym more) (Contains-append_right was (values_under o) n (subst (λ (p : Option (Vec Node Global)). Contains (values_under p) n) (sym found) h))
+    new n h = subst (λ (ns : List Node). Contains ns n) (sym more) (Contains-append_right was (values_under o) n (subst (λ (p : Option (Values Node)). Contains (values_under p) n) (sym found) h))
 
     stays : (j : Sign) (n : Node) (b : Bool) → Contains (values_under (cond b None (get sign_cmp m j))) n → Contains (under sign_cmp m j) n
     stays j n true h = absurd (none n h)
@@ -99,13 +101,16 @@ taken_one m less k o was now found removed more = record {
 
     left : (j : Sign) (n : Node) (b : Bool) → is_eq (sign_cmp k j) ≡ b → Contains (under sign_cmp m j) n → Contains (under sign_cmp less j) n ⊎ Contains now n
     left j n true e h = inr (new n (subst (λ (z : Sign). Contains (under sign_cmp m z) n) (sym (tells_apart exact_sign k j e)) h))
-    left j n false e h = inl (subst (λ (p : Option (Vec Node Global)). Contains (values_under p) n) (sym (removed j ∙ ap (λ (b : Bool). cond b None (get sign_cmp m j)) e)) h)
+    left j n false e h = inl (subst (λ (p : Option (Values Node)). Contains (values_under p) n) (sym (removed j ∙ ap (λ (b : Bool). cond b None (get sign_cmp m j)) e)) h)
 
 -- ---- one entity after the other
 
+empty_signs : (m : BTreeMap Node (Vec Sign Global)) (n : Node) → m.entries ≡ [] → signs_under (get node_cmp m n) ≡ []
+empty_signs m n e = ap (λ (es : List (Node × Vec Sign Global)). signs_under (lookup (is_at (node_cmp n)) es)) e
+
 pub kin_none : (s : Shown) (kin : Kin) → IsEmpty kin.signs → IsEmpty kin.signed → AreKin s [] NoneFound kin
 kin_none s kin signs signed = record {
-  of_node = λ n k h. absurd (none k (subst (λ (ks : List Sign). Contains ks k) (empty_under node_cmp kin.signs n signs) h));
+  of_node = λ n k h. absurd (none k (subst (λ (ks : List Sign). Contains ks k) (empty_signs kin.signs n signs) h));
   of_sign = λ n k h. absurd (none n (subst (λ (ns : List Node). Contains ns n) (empty_under sign_cmp kin.signed k signed) h));
   each = λ n k on has. absurd (none n on);
   every = λ n k on has. absurd (none n on);
@@ -144,8 +149,8 @@ module _ (s : Shown) (nodes : List Node) (one : OpenNode) (kin new : Kin) (key :
   signs_put n = at (is_eq (node_cmp key n)) refl
     where
       at : (b : Bool) → is_eq (node_cmp key n) ≡ b → ((one.node ≡ n) × (signs_in new n ≡ signs one)) ⊎ (signs_in new n ≡ signs_in kin n)
-      at true e = inl (sym keyed ∙ tells_apart exact_node key n e, ap (λ (o : Option (Vec Sign Global)). values_under o) (put n ∙ ap (λ (b : Bool). cond b (Some v) (get node_cmp kin.signs n)) e) ∙ own)
-      at false e = inr (ap (λ (o : Option (Vec Sign Global)). values_under o) (put n ∙ ap (λ (b : Bool). cond b (Some v) (get node_cmp kin.signs n)) e))
+      at true e = inl (sym keyed ∙ tells_apart exact_node key n e, ap (λ (o : Option (Vec Sign Global)). signs_under o) (put n ∙ ap (λ (b : Bool). cond b (Some v) (get node_cmp kin.signs n)) e) ∙ own)
+      at false e = inr (ap (λ (o : Option (Vec Sign Global)). signs_under o) (put n ∙ ap (λ (b : Bool). cond b (Some v) (get node_cmp kin.signs n)) e))
 
   has : (n : Node) (k : Sign) → one.node ≡ n → Contains (signs one) k → HasSignAt s n k
   has n k e h = subst (λ (z : Node). HasSignAt s z k) e (one, listed, (entity, h))
@@ -174,7 +179,7 @@ module _ (s : Shown) (nodes : List Node) (one : OpenNode) (kin new : Kin) (key :
   }
     where
       at_own : signs_in new one.node ≡ signs one
-      at_own = ap (λ (o : Option (Vec Sign Global)). values_under o) (subst (λ (z : Node). get node_cmp new.signs z ≡ Some v) keyed (put key ∙ ap (λ (o : Ordering). cond (is_eq o) (Some v) (get node_cmp kin.signs key)) (tied_itself node_total key))) ∙ own
+      at_own = ap (λ (o : Option (Vec Sign Global)). signs_under o) (subst (λ (z : Node). get node_cmp new.signs z ≡ Some v) keyed (put key ∙ ap (λ (o : Ordering). cond (is_eq o) (Some v) (get node_cmp kin.signs key)) (tied_itself node_total key))) ∙ own
 
 -- ---- the class of a goal
 
@@ -217,9 +222,9 @@ kin_taken s goal y P Q kin new near of taken signs so now = record {
   nodes = of.nodes;
   same = of.same;
   told = record {
-    of_node = λ n k h. (of.told).of_node n k (subst (λ (m : BTreeMap Node (Vec Sign Global)). Contains (under node_cmp m n) k) signs h);
+    of_node = λ n k h. (of.told).of_node n k (subst (λ (m : BTreeMap Node (Vec Sign Global)). Contains (signs_under (get node_cmp m n)) k) signs h);
     of_sign = λ n k h. (of.told).of_sign n k (taken.stays k n h);
-    each = λ n k on has. subst (λ (m : BTreeMap Node (Vec Sign Global)). Contains (under node_cmp m n) k) (sym signs) ((of.told).each n k on has);
+    each = λ n k on has. subst (λ (m : BTreeMap Node (Vec Sign Global)). Contains (signs_under (get node_cmp m n)) k) (sym signs) ((of.told).each n k on has);
     every = λ n k on has. elim ((of.told).every n k on has) [
       | inl there ↦ elim (taken.left k n there) [ inl left ↦ inl left | inr taken ↦ inr (now n taken) ]
       | inr found ↦ inr (so n found)

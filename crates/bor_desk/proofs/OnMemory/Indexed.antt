@@ -5,7 +5,6 @@ use Rattle.std.specs.BTreeMap.{BTreeMap, IsEmpty, is_at}
 use Rattle.std.specs.Map.{lookup}
 use Rattle.std.specs.Ordering.{is_eq}
 use Rattle.std.specs.declared.cmp.Ordering.{Ordering}
-use Rattle.std.proofs.Common.{Vec, Global}
 use Rattle.std.proofs.lemmas.List.Elements.{Contains-append_cases, Contains-append_left, Contains-append_right}
 use Rattle.std.proofs.lemmas.Map.Lookups.{CmpEqualImpliesEq, exact_bytes}
 use Rattle.std.proofs.lemmas.Map.Views.{tells_apart}
@@ -23,6 +22,7 @@ use Rattle.bor_register.specs.declared.filing.AcceptedFiling.{AcceptedFiling}
 use Rattle.bor_desk.specs.declared.memory.index.Index.{Index}
 use Rattle.bor_desk.specs.declared.memory.index.Place.{Place}
 use Rattle.bor_desk.specs.declared.memory.index.StatementKey.{StatementKey}
+use Rattle.bor_desk.specs.declared.memory.values.Values.{Values}
 use Rattle.bor_register.specs.declared.member.Member.{Member}
 use Rattle.bor_register.specs.Register.{filings_of, is_enrolled, new_member, with_filings, with_member}
 use Rattle.bor_register.specs.Withdrawal.{as_withdrawn, with_withdrawn}
@@ -171,8 +171,8 @@ index_enrolled ms agent token x fresh h = index_same ms (with_member (new_member
 
 -- ---- no agents
 
-pub empty_under : {K X : Type 0} (cmp : K → K → Ordering) (m : BTreeMap K (Vec X Global)) (k : K) → m.entries ≡ [] → under cmp m k ≡ []
-empty_under {K} {X} cmp m k e = ap (λ (es : List (K × Vec X Global)). values_under (lookup (is_at (cmp k)) es)) e
+pub empty_under : {K X : Type 0} (cmp : K → K → Ordering) (m : BTreeMap K (Values X)) (k : K) → m.entries ≡ [] → under cmp m k ≡ []
+empty_under {K} {X} cmp m k e = ap (λ (es : List (K × Values X)). values_under (lookup (is_at (cmp k)) es)) e
 
 pub index_none : (x : Index) → IsEmpty x.series → IsEmpty x.named → IsIndex [] x
 index_none x series named = record {

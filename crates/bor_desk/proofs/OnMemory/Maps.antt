@@ -1,5 +1,5 @@
 -- Lists of values under keys, one value after the other.
-use Rattle.std.proofs.Common.{◌≡◌, ◌⊎◌, ◌+◌, ◌<◌, ◌++◌, ℕ, Bool, true, false, cond, Option, Some, None, List, [], ◌∷◌, Contains, drop, take, length, get_or, append_assoc, sym, refl, ap, ◌∙◌, subst, inl, inr, Vec, Global}
+use Rattle.std.proofs.Common.{◌≡◌, ◌⊎◌, ◌+◌, ◌<◌, ◌++◌, ℕ, Bool, true, false, cond, Option, Some, None, List, [], ◌∷◌, Contains, drop, take, length, get_or, append_assoc, sym, refl, ap, ◌∙◌, subst, inl, inr}
 use Rattle.std.specs.Prelude.{if◌then◌else◌}
 use Rattle.std.specs.Ordering.{is_eq}
 use Rattle.std.specs.declared.cmp.Ordering.{Ordering}
@@ -14,26 +14,23 @@ use Rattle.bor_records.specs.Links.Series.{stated}
 use Rattle.bor_records.proofs.OnLinks.Found.{none}
 use Rattle.bor_records.proofs.OnLinks.Growth.{Contains-take_more}
 use Rattle.bor_desk.specs.declared.memory.index.Place.{Place}
-use Rattle.bor_desk.specs.Memory.Indexed.{AreNoted, IsNoted, values_under, under}
+use Rattle.bor_desk.specs.declared.memory.values.Values.{Values}
+use Rattle.bor_desk.specs.Memory.Indexed.{AreNoted, IsNoted, values_in, values_under, under}
 use Rattle.bor_desk.specs.Memory.Sited.{places_from}
 
 -- ---- one value
 
 -- a value is put after those under a key
-pub put_under : {K X : Type 0} (cmp : K → K → Ordering) (m less more : BTreeMap K (Vec X Global)) (key : K) (old new : Vec X Global) (x : X) → old.items ≡ under cmp m key → new.items ≡ old.items ++ x ∷ []
+pub put_under : {K X : Type 0} (cmp : K → K → Ordering) (m less more : BTreeMap K (Values X)) (key : K) (new : Values X) (x : X) → values_in new ≡ under cmp m key ++ x ∷ []
     → ((q : K) → get cmp less q ≡ cond (is_eq (cmp key q)) None (get cmp m q))
     → ((q : K) → get cmp more q ≡ cond (is_eq (cmp key q)) (Some new) (get cmp less q))
     → (q : K) → under cmp more q ≡ cond (is_eq (cmp key q)) (under cmp m key ++ x ∷ []) (under cmp m q)
-put_under {K} {X} cmp m less more key old new x was is removed put q =
-    ap (λ (o : Option (Vec X Global)). values_under o) (put q ∙ ap (λ (o : Option (Vec X Global)). cond (is_eq (cmp key q)) (Some new) o) (removed q)) ∙ of (is_eq (cmp key q))
+put_under {K} {X} cmp m less more key new x is removed put q =
+    ap (λ (o : Option (Values X)). values_under o) (put q ∙ ap (λ (o : Option (Values X)). cond (is_eq (cmp key q)) (Some new) o) (removed q)) ∙ of (is_eq (cmp key q))
   where
     of : (b : Bool) → values_under (cond b (Some new) (cond b None (get cmp m q))) ≡ cond b (under cmp m key ++ x ∷ []) (under cmp m q)
-    of true = is ∙ ap (λ (xs : List X). xs ++ x ∷ []) was
+    of true = is
     of false = refl
-
-pub put_at : {K X : Type 0} (cmp : K → K → Ordering) (m more : BTreeMap K (Vec X Global)) (key : K) (old new : Vec X Global) (x : X) → old.items ≡ under cmp m key → new.items ≡ old.items ++ x ∷ []
-    → get cmp more key ≡ Some new → under cmp more key ≡ under cmp m key ++ x ∷ []
-put_at {K} {X} cmp m more key old new x was is put = ap (λ (o : Option (Vec X Global)). values_under o) put ∙ is ∙ ap (λ (xs : List X). xs ++ x ∷ []) was
 
 -- ---- the places of a filing's statements
 

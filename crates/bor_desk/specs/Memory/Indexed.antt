@@ -4,7 +4,6 @@ use Rattle.std.specs.Prelude.{Some}
 use Rattle.std.specs.BTreeMap.{BTreeMap, get}
 use Rattle.std.specs.Ordering.{is_eq, ordering_then}
 use Rattle.std.specs.declared.cmp.Ordering.{Ordering}
-use Rattle.std.proofs.Common.{Vec, Global}
 use Rattle.bods_read.specs.declared.details.Details.{Details}
 use Rattle.bods_read.specs.declared.details.Details.TheVariants as details
 use Rattle.bods_read.specs.declared.statement.Statement.{Statement}
@@ -17,15 +16,21 @@ use Rattle.bor_register.specs.declared.filing.AcceptedFiling.{AcceptedFiling}
 use Rattle.bor_register.specs.declared.member.Member.{Member}
 use Rattle.bor_desk.specs.declared.memory.index.Index.{Index}
 use Rattle.bor_desk.specs.declared.memory.index.StatementKey.{StatementKey}
+use Rattle.bor_desk.specs.declared.memory.values.Values.{Values}
+use Rattle.bor_desk.specs.declared.memory.values.Values.TheVariants as values
 use Rattle.bor_register.specs.Register.{filings_of}
 use Rattle.bor_desk.specs.Memory.Sited.{ArePlacesOf, places_from}
 
 -- the values under a key
-abbrev pub values_under : {X : Type 0} → Option (Vec X Global) → List X
-values_under None = []
-values_under (Some v) = v.items
+abbrev pub values_in : {X : Type 0} → Values X → List X
+values_in (values.One x) = x ∷ []
+values_in (values.More xs) = xs.items
 
-abbrev pub under : {K X : Type 0} → (K → K → Ordering) → BTreeMap K (Vec X Global) → K → List X
+abbrev pub values_under : {X : Type 0} → Option (Values X) → List X
+values_under None = []
+values_under (Some xs) = values_in xs
+
+abbrev pub under : {K X : Type 0} → (K → K → Ordering) → BTreeMap K (Values X) → K → List X
 under cmp m k = values_under (get cmp m k)
 
 -- by identifier, then agent

@@ -10,7 +10,7 @@ ghost use Rattle.bor_desk.specs.Kin.{AreKin, AreTaken, IsKinOf, NoneFound, signe
 ghost use Rattle.bor_desk.specs.Memory.Indexed.{under};
 ghost use Rattle.bor_desk.specs.Operations.Outcomes.{Accounts, store_fault};
 
-use crate::memory::{note, push_signs};
+use crate::memory::{Values, note, push_signs};
 use crate::operations::{Keep, StoreFault};
 use bor_chains::Node;
 use bor_records::links::{OpenNode, Sign, node_of};
@@ -30,24 +30,24 @@ fn signs_of(alloc: Global, one: &OpenNode) -> Result<Vec<Sign>, AllocError>
 
 // Takes the entities that have a sign out of the map, to those that were taken before.
 fn take_signed(
-    signed: &mut BTreeMap<Sign, Vec<Node>>,
+    signed: &mut BTreeMap<Sign, Values<Node>>,
     sign: &Sign,
     taken: &mut Vec<Node>,
 ) -> Result<(), AllocError>
     ensures { OnOk result (AreTaken (sign.now ∷ []) (under sign_cmp signed.old)
         (under sign_cmp signed.new) taken.old.items taken.new.items) }
 {
-    let Some(mut nodes) = signed.remove(sign) else {
+    let Some(nodes) = signed.remove(sign) else {
         return Ok(());
     };
-    taken.append(&mut nodes)?;
+    nodes.move_to(taken)?;
     Ok(())
 }
 
 // Takes the entities that have one of some signs out of the map.
 fn take_all(
     alloc: Global,
-    signed: &mut BTreeMap<Sign, Vec<Node>>,
+    signed: &mut BTreeMap<Sign, Values<Node>>,
     signs: &[Sign],
 ) -> Result<Vec<Node>, AllocError>
     ensures { IfOk result (λ taken. AreTaken signs.now (under sign_cmp signed.old)
@@ -66,7 +66,7 @@ pub(crate) struct Kin {
     // The signs of each entity.
     signs: BTreeMap<Node, Vec<Sign>>,
     // The entities that have a sign, until they are taken by it.
-    signed: BTreeMap<Sign, Vec<Node>>,
+    signed: BTreeMap<Sign, Values<Node>>,
 }
 
 impl Kin {

@@ -10,6 +10,7 @@ ghost use Rattle.bor_records.specs.Links.Signs.{by_identifier, sign_cmp};
 ghost use Rattle.bor_desk.specs.Memory.Indexed.{AreNoted, IsGrown, IsIndex, IsNoted, key_cmp, key_of, signs_of, subjects_of, under};
 ghost use Rattle.bor_desk.specs.Memory.Sited.{places_from};
 
+use crate::memory::values::Values;
 use bods_read::{Details, Identifier, Statement};
 use bor_records::links::{Node, Sign};
 use bor_terms::{AgentName, Ident};
@@ -37,10 +38,10 @@ pub(crate) struct StatementKey {
 /// have lost its statement, and a record that was found may name something else by now.
 #[derive(Drop)]
 pub(crate) struct Index {
-    pub(crate) series: BTreeMap<Node, Vec<Place>>,
-    pub(crate) named: BTreeMap<StatementKey, Vec<Place>>,
-    pub(crate) naming: BTreeMap<Node, Vec<Node>>,
-    pub(crate) signed: BTreeMap<Sign, Vec<Node>>,
+    pub(crate) series: BTreeMap<Node, Values<Place>>,
+    pub(crate) named: BTreeMap<StatementKey, Values<Place>>,
+    pub(crate) naming: BTreeMap<Node, Values<Node>>,
+    pub(crate) signed: BTreeMap<Sign, Values<Node>>,
 }
 
 impl Index {
@@ -89,7 +90,7 @@ impl Index {
         ensures { result.now ≡ under node_cmp self.now.series node.now }
     {
         match self.series.get(node) {
-            Some(places) => places,
+            Some(places) => places.as_slice(),
             None => &[],
         }
     }
@@ -99,7 +100,7 @@ impl Index {
         ensures { result.now ≡ under key_cmp self.now.named key.now }
     {
         match self.named.get(key) {
-            Some(places) => places,
+            Some(places) => places.as_slice(),
             None => &[],
         }
     }
@@ -109,7 +110,7 @@ impl Index {
         ensures { result.now ≡ under node_cmp self.now.naming subject.now }
     {
         match self.naming.get(subject) {
-            Some(records) => records,
+            Some(records) => records.as_slice(),
             None => &[],
         }
     }
@@ -119,16 +120,16 @@ impl Index {
         ensures { result.now ≡ under sign_cmp self.now.signed sign.now }
     {
         match self.signed.get(sign) {
-            Some(records) => records,
+            Some(records) => records.as_slice(),
             None => &[],
         }
     }
 }
 
-// Puts a value after those under a key. Most keys have one.
+// Puts a value after those under a key.
 fn put<K: Ord + Drop, V: Drop>(
     alloc: Global,
-    map: &mut BTreeMap<K, Vec<V>>,
+    map: &mut BTreeMap<K, Values<V>>,
     key: K,
     value: V,
 ) -> Result<(), AllocError>
@@ -137,12 +138,11 @@ fn put<K: Ord + Drop, V: Drop>(
         ≡ cond (is_eq (K.cmp key q)) (under K.cmp map.old key ++ value ∷ [])
         (under K.cmp map.old q)) }
 {
-    let mut items = match map.remove(&key) {
-        Some(items) => items,
-        None => Vec::with_capacity(alloc, 1)?,
+    let values = match map.remove(&key) {
+        Some(values) => values.with(alloc, value)?,
+        None => Values::One(value),
     };
-    items.push(value)?;
-    map.insert(key, items)?;
+    map.insert(key, values)?;
     Ok(())
 }
 
@@ -177,7 +177,7 @@ pub(crate) fn record_of(
 // Puts the places of a filing's statements under their records.
 fn add_series(
     alloc: Global,
-    series: &mut BTreeMap<Node, Vec<Place>>,
+    series: &mut BTreeMap<Node, Values<Place>>,
     agent: &AgentName,
     filing: usize,
     statements: &[Statement],
@@ -204,7 +204,7 @@ fn add_series(
 // Puts the places of a filing's statements under the statements' identifiers.
 fn add_named(
     alloc: Global,
-    named: &mut BTreeMap<StatementKey, Vec<Place>>,
+    named: &mut BTreeMap<StatementKey, Values<Place>>,
     agent: &AgentName,
     filing: usize,
     statements: &[Statement],
@@ -234,7 +234,7 @@ fn add_named(
 /// Puts a record under each of these keys.
 pub(crate) fn note<K: Ord + Drop>(
     alloc: Global,
-    map: &mut BTreeMap<K, Vec<Node>>,
+    map: &mut BTreeMap<K, Values<Node>>,
     mut keys: Vec<K>,
     node: &Node,
 ) -> Result<(), AllocError>
@@ -269,7 +269,7 @@ fn subjects_of(
 // Puts each relationship under the subject that it names.
 fn add_naming(
     alloc: Global,
-    naming: &mut BTreeMap<Node, Vec<Node>>,
+    naming: &mut BTreeMap<Node, Values<Node>>,
     agent: &AgentName,
     statements: &[Statement],
 ) -> Result<(), AllocError>
@@ -319,7 +319,7 @@ fn signs_of(
 // Puts each entity under its signs.
 fn add_signed(
     alloc: Global,
-    signed: &mut BTreeMap<Sign, Vec<Node>>,
+    signed: &mut BTreeMap<Sign, Values<Node>>,
     agent: &AgentName,
     statements: &[Statement],
 ) -> Result<(), AllocError>

@@ -8,4 +8,4 @@ returns-in_default c =
 
 pub returns : goal.returns
 returns c =
-    taken_one c.args.signed.now c.remove.new.self c.args.sign.now (Some c.in-Some.nodes) c.args.taken.now.items c.append.new.self.items (sym c.in-Some.is ∙ c.remove.ensures.value) c.remove.ensures.updates.0 c.in_ok-append.ensures.items
+    taken_one c.args.signed.now c.remove.new.self c.args.sign.now (Some c.in-Some.nodes) c.args.taken.now.items c.move_to.new.list.items (sym c.in-Some.is ∙ c.remove.ensures.value) c.remove.ensures.updates.0 c.in_ok-move_to.ensures
