@@ -9,6 +9,7 @@ use Rattle.bor_register.specs.declared.member.Member.{Member}
 use Rattle.bor_register.specs.Register.{Register, caller_of, is_enrolled, is_taken, filings_of, new_member, with_member}
 use Rattle.bor_register.proofs.Callers.{caller_is_enrolled}
 use Rattle.bor_register.proofs.Members.{filings_absent, filings_written, other_filings}
+use Rattle.bor_desk.specs.Operations.Laws.{LeavesOthers}
 use Rattle.bor_desk.specs.Operations.Legality.{IsLegal}
 use Rattle.bor_desk.specs.Operations.Sight.{sight_of}
 use Rattle.bor_desk.specs.Operations.Registrar.{advance_step, enrol_step}
@@ -17,8 +18,10 @@ use Rattle.bor_desk.proofs.OnOperations.Legality.{leaves-with_filings, advance-k
 use Rattle.bor_desk.proofs.OnOperations.Renewals.{renewal-filings, renewal-renews_token}
 use Rattle.bor_desk.proofs.OnOperations.Alone.{filings-with_member, sight-alone}
 use Rattle.bor_desk.specs.declared.request.Request.{Request}
-use Rattle.bor_desk.specs.declared.request.Request.TheVariants as ask
-use Rattle.bor_desk.specs.Step.{own_after, agent_answer, agent_step, registrar_step, step}
+use Rattle.bor_desk.specs.declared.request.Request.TheVariants as of
+use Rattle.bor_desk.specs.declared.request.RegistrarRequest.{RegistrarRequest}
+use Rattle.bor_desk.specs.declared.request.RegistrarRequest.TheVariants as office
+use Rattle.bor_desk.specs.Step.{own_after, agent_answer, registrar_step, step}
 use Rattle.bor_desk.specs.Runs.{Asked, exchange, register_after, request_by, occasion_then, history, told_then, answers_to, solo}
 use Rattle.bor_desk.specs.declared.reply.DeskReply.{DeskReply}
 use Rattle.bor_desk.specs.Outcomes.{IsAnswered}
@@ -48,38 +51,35 @@ advance-filings : (r : Register) (day : ℤ) (asked : List ℕ) (b : Bool) → i
 advance-filings r day asked true h = rw h refl
 advance-filings r day asked false h = rw h refl
 
-pub registrar-filings : (r : Register) (request : Request) (asked : List ℕ) → filings_of asked (registrar_step r request).register.members ≡ filings_of asked r.members
-registrar-filings r (ask.Day date) asked = advance-filings r date asked (int_lt date r.day) refl
-registrar-filings r (ask.Enrol name token) asked = enrol-filings r name token asked _ _ refl refl
-registrar-filings r (ask.Lodge key due file) asked = refl
-registrar-filings r (ask.Withdraw key) asked = refl
-registrar-filings r ask.Filings asked = refl
-registrar-filings r (ask.File key) asked = refl
-registrar-filings r ask.Published asked = refl
-registrar-filings r (ask.Snapshot agent declaration date) asked = refl
-registrar-filings r (ask.Chains entity date) asked = refl
-registrar-filings r (ask.Evidence entity date) asked = refl
-registrar-filings r (ask.Entities identifier date) asked = refl
-registrar-filings r (ask.Renew name token) asked = renewal-filings r name token asked
-registrar-filings r ask.Register asked = refl
+pub registrar-filings : (r : Register) (request : RegistrarRequest) (asked : List ℕ) → filings_of asked (registrar_step r request).register.members ≡ filings_of asked r.members
+registrar-filings r (office.Day date) asked = advance-filings r date asked (int_lt date r.day) refl
+registrar-filings r (office.Enrol name token) asked = enrol-filings r name token asked _ _ refl refl
+registrar-filings r (office.Renew name token) asked = renewal-filings r name token asked
+registrar-filings r office.Register asked = refl
 
 others-filings : (r : Register) (caller : Option Caller) (request : Request) (name : List ℕ) → is_agent name caller ≡ false → filings_of name (step r caller request).register.members ≡ filings_of name r.members
 others-filings r None request name other = refl
-others-filings r (Some Registrar) request name other = registrar-filings r request name
-others-filings r (Some (Agent asking)) request name other = other_filings asking name (own_after (sight_of asking r) request) r.members other
+others-filings r (Some Registrar) (of.Registrar request) name other = registrar-filings r request name
+others-filings r (Some Registrar) (of.Agent request) name other = refl
+others-filings r (Some (Agent asking)) (of.Agent request) name other = other_filings asking name (own_after (sight_of asking r) request) r.members other
+others-filings r (Some (Agent asking)) (of.Registrar request) name other = refl
 
 -- ---- the agents that were there
 
-registrar-keeps : (r : Register) (request : Request) → IsLeftBy request r (registrar_step r request).register
-registrar-keeps r (ask.Day date) = advance-keeps_agents r date
-registrar-keeps r (ask.Enrol name token) = enrolment-keeps_agents r name token
-registrar-keeps r (ask.Renew name token) = renewal-renews_token r name token
+registrar-keeps : (r : Register) (request : Request) → IsLeftBy request r (step r (Some Registrar) request).register
+registrar-keeps r (of.Registrar (office.Day date)) = advance-keeps_agents r date
+registrar-keeps r (of.Registrar (office.Enrol name token)) = enrolment-keeps_agents r name token
+registrar-keeps r (of.Registrar (office.Renew name token)) = renewal-renews_token r name token
 registrar-keeps r request = record { registrar = refl; agents = λ m on. on }
+
+agent-leaves : (r : Register) (name : List ℕ) (request : Request) → LeavesOthers name r (step r (Some (Agent name)) request).register
+agent-leaves r name (of.Agent request) = leaves-with_filings r name (own_after (sight_of name r) request)
+agent-leaves r name (of.Registrar request) = record { day = refl; registrar = refl; agents = refl; filings = λ other differs. refl }
 
 pub own_filings : OwnFilingsUntouched
 own_filings = record {
   by_others = others-filings;
-  by_an_agent = λ r name request. leaves-with_filings r name (own_after (sight_of name r) request);
+  by_an_agent = agent-leaves;
   by_the_registrar = registrar-keeps;
   by_nobody = λ r request. refl;
 }
@@ -91,7 +91,8 @@ enrolled-with_member new [] = rw (same_refl new.name) refl
 enrolled-with_member new (m ∷ ms) = grind (arith, same_refl new.name, enrolled-with_member new ms)
 
 as_alone : (r : Register) (name : List ℕ) (request : Request) → IsLegal r → is_enrolled name r.members ≡ true → IsAsAlone r name request
-as_alone r name request legal enrolled =
+as_alone r name (of.Registrar request) legal enrolled = record { answer = refl; filings = ap (λ s. s.own) (sight-alone r name legal enrolled) }
+as_alone r name (of.Agent request) legal enrolled =
     let sight = sight-alone r name legal enrolled in
     let others = with_outwards (published_beside name r.day r.members) [] in
     record {
@@ -125,28 +126,30 @@ passed r after name rest same goes = goes ∙ ap (λ own. solo name own (history
 -- after an exchange of the agent itself
 ByItself : Register → List ℕ → Request → List Asked → List ℕ → Type 0
 ByItself r asking request rest name =
-    Goes (agent_step r asking request).register name rest →
-    (agent_step r asking request).answer ∷ answers_to name (agent_step r asking request).register rest
-    ≡ solo name (filings_of name r.members) (record { day = r.day; others = published_beside name r.day r.members; request = request } ∷ history name (agent_step r asking request).register rest)
+    let after = step r (Some (Agent asking)) request in
+    Goes after.register name rest →
+    after.answer ∷ answers_to name after.register rest
+    ≡ solo name (filings_of name r.members) (record { day = r.day; others = published_beside name r.day r.members; request = request } ∷ history name after.register rest)
 
 by_itself : (r : Register) (name : List ℕ) (request : Request) (rest : List Asked) → IsLegal r → is_enrolled name r.members ≡ true → ByItself r name request rest name
 unfolding Goes ByItself
 by_itself r name request rest legal enrolled goes =
     let one = as_alone r name request legal enrolled in
-    let after = agent_step r name request in
-    let lone = agent_step (alone name r) name request in
+    let after = step r (Some (Agent name)) request in
+    let lone = step (alone name r) (Some (Agent name)) request in
     ap (λ a. a ∷ answers_to name after.register rest) (sym one.answer)
     ∙ ap (λ rest_told. lone.answer ∷ rest_told) (goes ∙ ap (λ fs. solo name fs (history name after.register rest)) (sym one.filings))
 
 by_agent : (r : Register) (name asking : List ℕ) (request : Request) (rest : List Asked) (b : Bool) → is_same asking name ≡ b → IsLegal r → is_enrolled asking r.members ≡ true →
-    Goes (agent_step r asking request).register name rest →
-    told_then (if b then Some request else None) (agent_step r asking request).answer (answers_to name (agent_step r asking request).register rest)
-    ≡ solo name (filings_of name r.members) (occasion_then name r (if b then Some request else None) (history name (agent_step r asking request).register rest))
+    let after = step r (Some (Agent asking)) request in
+    Goes after.register name rest →
+    told_then (if b then Some request else None) after.answer (answers_to name after.register rest)
+    ≡ solo name (filings_of name r.members) (occasion_then name r (if b then Some request else None) (history name after.register rest))
 unfolding Goes ByItself
 by_agent r name asking request rest true same legal enrolled goes =
     subst (λ n. ByItself r asking request rest n) (same_is asking name same) (by_itself r asking request rest legal enrolled) goes
 by_agent r name asking request rest false other legal enrolled goes =
-    passed r (agent_step r asking request).register name rest (other_filings asking name (own_after (sight_of asking r) request) r.members other) goes
+    passed r (step r (Some (Agent asking)) request).register name rest (others-filings r (Some (Agent asking)) request name other) goes
 
 by_caller : (r : Register) (token name : List ℕ) (request : Request) (rest : List Asked) (caller : Option Caller) → caller_of token r ≡ caller → IsLegal r →
     Goes (step r caller request).register name rest →
@@ -154,7 +157,7 @@ by_caller : (r : Register) (token name : List ℕ) (request : Request) (rest : L
     ≡ solo name (filings_of name r.members) (occasion_then name r (request_by name caller request) (history name (step r caller request).register rest))
 by_caller r token name request rest None is legal goes = passed r r name rest refl goes
 by_caller r token name request rest (Some Registrar) is legal goes =
-    passed r (registrar_step r request).register name rest (registrar-filings r request name) goes
+    passed r (step r (Some Registrar) request).register name rest (others-filings r (Some Registrar) request name refl) goes
 by_caller r token name request rest (Some (Agent asking)) is legal goes =
     by_agent r name asking request rest (is_same asking name) refl legal (caller_is_enrolled r token asking is) goes
 

@@ -14,7 +14,8 @@ use Rattle.bor_register.specs.declared.member.Member.{Member}
 use Rattle.bor_register.specs.Publication.{agent_line, is_published, outward, outwards_of, published, published_count}
 use Rattle.bor_register.specs.Register.{AllAbove, IsOrdered, Register, agent_with, caller_of, is_enrolled, is_taken}
 use Rattle.bor_register.proofs.Callers.{taken-caller}
-use Rattle.bor_desk.specs.declared.request.Request.TheVariants as ask
+use Rattle.bor_desk.specs.declared.request.Request.TheVariants as of
+use Rattle.bor_desk.specs.declared.request.RegistrarRequest.TheVariants as office
 use Rattle.bor_desk.specs.declared.reply.DeskReply.TheVariants as tell
 use Rattle.bor_desk.specs.Operations.Laws.{agents_of}
 use Rattle.bor_desk.specs.Step.{exactly, registrar_step}
@@ -113,33 +114,33 @@ module _ (r q : Register) (same : IsOutwardlySame r q) where
   taken_same token = taken-caller token r ∙ ap (λ (o : Option Caller). is_some o) (caller_same token) ∙ sym (taken-caller token q)
 
 pub registrar_sees_no_draft : RegistrarSeesNoDraft
-registrar_sees_no_draft r q (ask.Day date) legal lawful same = at (int_lt date r.day) refl
+registrar_sees_no_draft r q (of.Registrar (office.Day date)) legal lawful same = at (int_lt date r.day) refl
   where
-    at : (b : Bool) → int_lt date r.day ≡ b → (registrar_step r (ask.Day date)).answer ≡ (registrar_step q (ask.Day date)).answer
+    at : (b : Bool) → int_lt date r.day ≡ b → (registrar_step r (office.Day date)).answer ≡ (registrar_step q (office.Day date)).answer
     at true e = let e' : int_lt date q.day ≡ true = sym (ap (int_lt date) same.day) ∙ e in rw (e, e') refl
     at false e = let e' : int_lt date q.day ≡ false = sym (ap (int_lt date) same.day) ∙ e in rw (e, e') refl
-registrar_sees_no_draft r q (ask.Enrol name token) legal lawful same = at (is_enrolled name r.members) (is_taken token r) refl refl
+registrar_sees_no_draft r q (of.Registrar (office.Enrol name token)) legal lawful same = at (is_enrolled name r.members) (is_taken token r) refl refl
   where
-    at : (b c : Bool) → is_enrolled name r.members ≡ b → is_taken token r ≡ c → (registrar_step r (ask.Enrol name token)).answer ≡ (registrar_step q (ask.Enrol name token)).answer
+    at : (b c : Bool) → is_enrolled name r.members ≡ b → is_taken token r ≡ c → (registrar_step r (office.Enrol name token)).answer ≡ (registrar_step q (office.Enrol name token)).answer
     at b c e f = by b c e f (sym (enrolled_same r q same name) ∙ e) (sym (taken_same r q same token) ∙ f)
       where
-        by : (b c : Bool) → is_enrolled name r.members ≡ b → is_taken token r ≡ c → is_enrolled name q.members ≡ b → is_taken token q ≡ c → (registrar_step r (ask.Enrol name token)).answer ≡ (registrar_step q (ask.Enrol name token)).answer
+        by : (b c : Bool) → is_enrolled name r.members ≡ b → is_taken token r ≡ c → is_enrolled name q.members ≡ b → is_taken token q ≡ c → (registrar_step r (office.Enrol name token)).answer ≡ (registrar_step q (office.Enrol name token)).answer
         by true c e f g h = rw (e, g) refl
         by false true e f g h = rw (e, f, g, h) refl
         by false false e f g h = rw (e, f, g, h) refl
-registrar_sees_no_draft r q (ask.Renew name token) legal lawful same = at (is_enrolled name r.members) (caller_of token r) refl refl (sym (enrolled_same r q same name)) (sym (caller_same r q same token))
+registrar_sees_no_draft r q (of.Registrar (office.Renew name token)) legal lawful same = at (is_enrolled name r.members) (caller_of token r) refl refl (sym (enrolled_same r q same name)) (sym (caller_same r q same token))
   where
     at : (b : Bool) (c : Option Caller) → is_enrolled name r.members ≡ b → caller_of token r ≡ c → is_enrolled name q.members ≡ is_enrolled name r.members → caller_of token q ≡ caller_of token r →
-        (registrar_step r (ask.Renew name token)).answer ≡ (registrar_step q (ask.Renew name token)).answer
+        (registrar_step r (office.Renew name token)).answer ≡ (registrar_step q (office.Renew name token)).answer
     at false c e f g h = let g' = g ∙ e in rw (e, g') refl
     at true None e f g h = let g' = g ∙ e in let h' = h ∙ f in rw (e, f, g', h') refl
     at true (Some Registrar) e f g h = let g' = g ∙ e in let h' = h ∙ f in rw (e, f, g', h') refl
     at true (Some (Agent owner)) e f g h = let g' = g ∙ e in let h' = h ∙ f in owned (is_same owner name) refl g' h'
       where
-        owned : (d : Bool) → is_same owner name ≡ d → is_enrolled name q.members ≡ true → caller_of token q ≡ Some (Agent owner) → (registrar_step r (ask.Renew name token)).answer ≡ (registrar_step q (ask.Renew name token)).answer
+        owned : (d : Bool) → is_same owner name ≡ d → is_enrolled name q.members ≡ true → caller_of token q ≡ Some (Agent owner) → (registrar_step r (office.Renew name token)).answer ≡ (registrar_step q (office.Renew name token)).answer
         owned true k g' h' = rw (e, f, g', h', k) refl
         owned false k g' h' = rw (e, f, g', h', k) refl
-registrar_sees_no_draft r q ask.Register legal lawful same =
+registrar_sees_no_draft r q (of.Registrar office.Register) legal lawful same =
     ap₂ (λ (ls : List AgentLine) (day : ℤ). exactly (tell.Register ls day))
     (lines_are r legal.names ∙ ap₂ (λ (os : List Outward) (names : List (List ℕ × List ℕ)). map (line_from os) names) same.published same.agents ∙ sym (lines_are q lawful.names)) same.day
-registrar_sees_no_draft r q request legal lawful same = refl
+registrar_sees_no_draft r q (of.Agent request) legal lawful same = refl

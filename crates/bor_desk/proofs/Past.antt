@@ -18,7 +18,7 @@ use Rattle.bor_chains.specs.Evidence.{AreEvidenced}
 use Rattle.bor_chains.proofs.Past.{later_statements_change_no_past as of_rows}
 use Rattle.bor_desk.specs.declared.evidence.lines.EntityEvidence.{EntityEvidence}
 use Rattle.bor_desk.specs.declared.evidence.lines.RecordEvidence.{RecordEvidence}
-use Rattle.bor_desk.specs.declared.request.Request.TheVariants as ask
+use Rattle.bor_desk.specs.declared.request.AgentRequest.TheVariants as ask
 use Rattle.bor_desk.specs.declared.reply.DeskReply.{DeskReply}
 use Rattle.bor_desk.specs.declared.reply.DeskReply.TheVariants as tell
 use Rattle.bor_desk.specs.declared.refusal.Refusal.TheVariants.{NoEntity}
@@ -112,12 +112,4 @@ later_statements_change_no_past name day r q (ask.Entities identifier date) repl
     subst (λ (d : Option ℤ). IsTold (entities identifier (unwrap_or d q.day) (seen_by name q)) reply) (sym is)
     (entities_told day (seen_by name r) (seen_by name q) same identifier reply
     (subst (λ (d : Option ℤ). IsTold (entities identifier (unwrap_or d r.day) (seen_by name r)) reply) is told))
-later_statements_change_no_past name day r q (ask.Lodge key due file) reply is same told = absurd (none_named day is)
-later_statements_change_no_past name day r q (ask.Withdraw key) reply is same told = absurd (none_named day is)
-later_statements_change_no_past name day r q ask.Filings reply is same told = absurd (none_named day is)
-later_statements_change_no_past name day r q (ask.File key) reply is same told = absurd (none_named day is)
-later_statements_change_no_past name day r q ask.Published reply is same told = absurd (none_named day is)
-later_statements_change_no_past name day r q (ask.Day date) reply is same told = absurd (none_named day is)
-later_statements_change_no_past name day r q (ask.Enrol other token) reply is same told = absurd (none_named day is)
-later_statements_change_no_past name day r q (ask.Renew other token) reply is same told = absurd (none_named day is)
-later_statements_change_no_past name day r q ask.Register reply is same told = absurd (none_named day is)
+later_statements_change_no_past name day r q request reply is same told = absurd (none_named day is)

@@ -5,7 +5,7 @@ use Rattle.bor_chains.specs.Laws.{dated_by}
 use Rattle.bor_register.specs.declared.filing.AcceptedFiling.{AcceptedFiling}
 use Rattle.bor_register.specs.Register.{Register}
 use Rattle.bor_register.proofs.Examples.{entity, first, second, today}
-use Rattle.bor_desk.specs.declared.request.Request.{Request}
+use Rattle.bor_desk.specs.declared.request.AgentRequest.{AgentRequest}
 use Rattle.bor_desk.specs.declared.reply.DeskReply.{DeskReply}
 use Rattle.bor_desk.specs.Operations.Sight.{seen_by}
 use Rattle.bor_desk.specs.Outcomes.{IsTold}
@@ -28,7 +28,7 @@ abbrev after : Register
 after = with_own today (first ∷ second ∷ dated_later ∷ [])
 
 -- whatever birch is told of today in the one it is told in the other
-told_today : (request : Request) (reply : DeskReply) → date_of request ≡ Some today → IsTold (agent_step before (codes "birch") request).answer reply → IsTold (agent_step after (codes "birch") request).answer reply
+told_today : (request : AgentRequest) (reply : DeskReply) → date_of request ≡ Some today → IsTold (agent_step before (codes "birch") request).answer reply → IsTold (agent_step after (codes "birch") request).answer reply
 told_today request reply is told = later_statements_change_no_past (codes "birch") today before after request reply is refl told
 
 -- but of the later day the statements differ

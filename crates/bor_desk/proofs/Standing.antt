@@ -17,7 +17,11 @@ use Rattle.bor_register.specs.Withdrawal.{as_withdrawn, has_successor, with_with
 use Rattle.bor_register.proofs.LiveStatements.{live_of-append}
 use Rattle.bor_desk.specs.declared.operations.fault.LodgeFault.{LodgeFault}
 use Rattle.bor_desk.specs.declared.request.Request.{Request}
-use Rattle.bor_desk.specs.declared.request.Request.TheVariants as ask
+use Rattle.bor_desk.specs.declared.request.Request.TheVariants as of
+use Rattle.bor_desk.specs.declared.request.AgentRequest.{AgentRequest}
+use Rattle.bor_desk.specs.declared.request.AgentRequest.TheVariants as ask
+use Rattle.bor_desk.specs.declared.request.RegistrarRequest.{RegistrarRequest}
+use Rattle.bor_desk.specs.declared.request.RegistrarRequest.TheVariants as office
 use Rattle.bor_desk.specs.Operations.Laws.{IsPrefix, live_series}
 use Rattle.bor_desk.specs.Operations.Legality.{AreLegal, AreRead, IsLegal, IsNumberedFrom}
 use Rattle.bor_desk.specs.Operations.Lodging.{addition, own_added, own_lodged_at}
@@ -148,7 +152,7 @@ stands_lodged : (s : Sight) (key : List ℕ) (due : ℤ) (bytes : List ℕ) (at 
 stands_lodged s key due bytes (Some f) = stands_still s.day s.own
 stands_lodged s key due bytes None = stands_added s.day s.own (addition s key due bytes)
 
-stands_own : (s : Sight) (request : Request) → AreLegal s.own → Stands s.day s.own s.day (own_after s request)
+stands_own : (s : Sight) (request : AgentRequest) → AreLegal s.own → Stands s.day s.own s.day (own_after s request)
 stands_own s (ask.Lodge key due file) legal = stands_lodged s key due file (filing_keyed key s.own)
 stands_own s (ask.Withdraw key) legal = stands_withdrawn s key (filing_keyed key s.own) refl legal
 stands_own s request legal = stands_still s.day s.own
@@ -231,7 +235,7 @@ standing_same r q day same = record {
     stands name = subst (λ d. Stands r.day (filings_of name r.members) d (filings_of name q.members)) (sym day)
         (subst (Stands r.day (filings_of name r.members) r.day) (sym (same name)) (stands_still r.day (filings_of name r.members)))
 
-standing_agent : (r : Register) (name : List ℕ) (request : Request) → IsLegal r → IsStanding r (agent_step r name request).register
+standing_agent : (r : Register) (name : List ℕ) (request : AgentRequest) → IsLegal r → IsStanding r (agent_step r name request).register
 standing_agent r name request legal = record {
   day = same_day r.day;
   filings = λ other. (stands other).filings;
@@ -259,27 +263,29 @@ standing_advance r date legal = at (int_lt date r.day) refl
         })
 
 -- the day moves by the one request alone
-registrar-day : (r : Register) (name token : List ℕ) → ((registrar_step r (ask.Enrol name token)).register.day ≡ r.day) × ((registrar_step r (ask.Renew name token)).register.day ≡ r.day)
+registrar-day : (r : Register) (name token : List ℕ) → ((registrar_step r (office.Enrol name token)).register.day ≡ r.day) × ((registrar_step r (office.Renew name token)).register.day ≡ r.day)
 registrar-day r name token = (enrolled, (renewal-renews_token r name token).day)
   where
-    enrolled : (registrar_step r (ask.Enrol name token)).register.day ≡ r.day
+    enrolled : (registrar_step r (office.Enrol name token)).register.day ≡ r.day
     enrolled = at (is_enrolled name r.members) (is_taken token r) refl refl
       where
-        at : (b c : Bool) → is_enrolled name r.members ≡ b → is_taken token r ≡ c → (registrar_step r (ask.Enrol name token)).register.day ≡ r.day
+        at : (b c : Bool) → is_enrolled name r.members ≡ b → is_taken token r ≡ c → (registrar_step r (office.Enrol name token)).register.day ≡ r.day
         at true c e f = rw e refl
         at false true e f = rw (e, f) refl
         at false false e f = rw (e, f) refl
 
-standing_registrar : (r : Register) (request : Request) → IsLegal r → IsStanding r (registrar_step r request).register
-standing_registrar r (ask.Day date) legal = standing_advance r date legal
-standing_registrar r (ask.Enrol name token) legal = standing_same r _ (registrar-day r name token).0 (registrar-filings r (ask.Enrol name token))
-standing_registrar r (ask.Renew name token) legal = standing_same r _ (registrar-day r name token).1 (registrar-filings r (ask.Renew name token))
-standing_registrar r request legal = standing_still r
+standing_registrar : (r : Register) (request : RegistrarRequest) → IsLegal r → IsStanding r (registrar_step r request).register
+standing_registrar r (office.Day date) legal = standing_advance r date legal
+standing_registrar r (office.Enrol name token) legal = standing_same r _ (registrar-day r name token).0 (registrar-filings r (office.Enrol name token))
+standing_registrar r (office.Renew name token) legal = standing_same r _ (registrar-day r name token).1 (registrar-filings r (office.Renew name token))
+standing_registrar r office.Register legal = standing_still r
 
 standing_step : (r : Register) (caller : Option Caller) (request : Request) → IsLegal r → IsStanding r (step r caller request).register
 standing_step r None request legal = standing_still r
-standing_step r (Some Registrar) request legal = standing_registrar r request legal
-standing_step r (Some (Agent name)) request legal = standing_agent r name request legal
+standing_step r (Some Registrar) (of.Registrar request) legal = standing_registrar r request legal
+standing_step r (Some Registrar) (of.Agent request) legal = standing_still r
+standing_step r (Some (Agent name)) (of.Agent request) legal = standing_agent r name request legal
+standing_step r (Some (Agent name)) (of.Registrar request) legal = standing_still r
 
 standing-trans : (r q s : Register) → IsStanding r q → IsStanding q s → IsStanding r s
 standing-trans r q s h k = record {

@@ -11,7 +11,11 @@ use Rattle.bor_desk.specs.Operations.Legality.{IsLegal}
 use Rattle.bor_desk.proofs.OnOperations.Legality.{lodging-stays_legal, withdrawal-stays_legal, advance-stays_legal, enrolment-stays_legal}
 use Rattle.bor_desk.proofs.OnOperations.Renewals.{renewal-stays_legal}
 use Rattle.bor_desk.specs.declared.request.Request.{Request}
-use Rattle.bor_desk.specs.declared.request.Request.TheVariants as ask
+use Rattle.bor_desk.specs.declared.request.Request.TheVariants as of
+use Rattle.bor_desk.specs.declared.request.AgentRequest.{AgentRequest}
+use Rattle.bor_desk.specs.declared.request.AgentRequest.TheVariants as ask
+use Rattle.bor_desk.specs.declared.request.RegistrarRequest.{RegistrarRequest}
+use Rattle.bor_desk.specs.declared.request.RegistrarRequest.TheVariants as office
 use Rattle.bor_desk.specs.declared.reply.DeskReply.{DeskReply}
 use Rattle.bor_desk.specs.declared.reply.DeskReply.TheVariants as tell
 use Rattle.bor_register.specs.declared.fault.StoreFault.{StoreFault}
@@ -27,45 +31,28 @@ written_back r name = ap (λ ms. record r { members = ms }) (with_filings_same n
 reading-legal : (r : Register) (name : List ℕ) → IsLegal r → IsLegal (record r { members = with_filings name (filings_of name r.members) r.members })
 reading-legal r name legal = subst IsLegal (sym (written_back r name)) legal
 
-agent-stays_legal : (r : Register) (name : List ℕ) (request : Request) → IsLegal r → IsLegal (agent_step r name request).register
+agent-stays_legal : (r : Register) (name : List ℕ) (request : AgentRequest) → IsLegal r → IsLegal (agent_step r name request).register
 agent-stays_legal r name (ask.Lodge key due file) legal = lodging-stays_legal r name key due file legal
 agent-stays_legal r name (ask.Withdraw key) legal = withdrawal-stays_legal r name key legal
-agent-stays_legal r name ask.Filings legal = reading-legal r name legal
-agent-stays_legal r name (ask.File key) legal = reading-legal r name legal
-agent-stays_legal r name ask.Published legal = reading-legal r name legal
-agent-stays_legal r name (ask.Snapshot agent declaration date) legal = reading-legal r name legal
-agent-stays_legal r name (ask.Chains entity date) legal = reading-legal r name legal
-agent-stays_legal r name (ask.Evidence entity date) legal = reading-legal r name legal
-agent-stays_legal r name (ask.Entities identifier date) legal = reading-legal r name legal
-agent-stays_legal r name (ask.Day date) legal = reading-legal r name legal
-agent-stays_legal r name (ask.Enrol new token) legal = reading-legal r name legal
-agent-stays_legal r name (ask.Renew other token) legal = reading-legal r name legal
-agent-stays_legal r name ask.Register legal = reading-legal r name legal
+agent-stays_legal r name request legal = reading-legal r name legal
 
-registrar-stays_legal : (r : Register) (request : Request) → IsLegal r → IsLegal (registrar_step r request).register
-registrar-stays_legal r (ask.Day date) legal = advance-stays_legal r date legal
-registrar-stays_legal r (ask.Enrol name token) legal = enrolment-stays_legal r name token legal
-registrar-stays_legal r (ask.Renew name token) legal = renewal-stays_legal r name token legal
-registrar-stays_legal r ask.Register legal = legal
-registrar-stays_legal r (ask.Lodge key due file) legal = legal
-registrar-stays_legal r (ask.Withdraw key) legal = legal
-registrar-stays_legal r ask.Filings legal = legal
-registrar-stays_legal r (ask.File key) legal = legal
-registrar-stays_legal r ask.Published legal = legal
-registrar-stays_legal r (ask.Snapshot agent declaration date) legal = legal
-registrar-stays_legal r (ask.Chains entity date) legal = legal
-registrar-stays_legal r (ask.Evidence entity date) legal = legal
-registrar-stays_legal r (ask.Entities identifier date) legal = legal
+registrar-stays_legal : (r : Register) (request : RegistrarRequest) → IsLegal r → IsLegal (registrar_step r request).register
+registrar-stays_legal r (office.Day date) legal = advance-stays_legal r date legal
+registrar-stays_legal r (office.Enrol name token) legal = enrolment-stays_legal r name token legal
+registrar-stays_legal r (office.Renew name token) legal = renewal-stays_legal r name token legal
+registrar-stays_legal r office.Register legal = legal
 
 -- each request of each caller leaves a legal register legal
 pub step-stays_legal : (r : Register) (caller : Option Caller) (request : Request) → IsLegal r → IsLegal (step r caller request).register
 step-stays_legal r None request legal = legal
-step-stays_legal r (Some Registrar) request legal = registrar-stays_legal r request legal
-step-stays_legal r (Some (Agent name)) request legal = agent-stays_legal r name request legal
+step-stays_legal r (Some Registrar) (of.Registrar request) legal = registrar-stays_legal r request legal
+step-stays_legal r (Some Registrar) (of.Agent request) legal = legal
+step-stays_legal r (Some (Agent name)) (of.Agent request) legal = agent-stays_legal r name request legal
+step-stays_legal r (Some (Agent name)) (of.Registrar request) legal = legal
 
 -- of a register whose agents stand in order of their names each request's answer is said
 pub ordered_for : (request : Request) (r : Register) → IsOrdered r.members → IsOrderedFor request r
-ordered_for (ask.Snapshot agent declaration date) r h = h
+ordered_for (of.Agent (ask.Snapshot agent declaration date)) r h = h
 ordered_for request r h = tt
 
 -- ---- what follows from a reply

@@ -1,8 +1,10 @@
 -- The requests that leave the register as it was: refusals, and requests that only read.
-use Rattle.std.proofs.Common.{◌≡◌, ℕ, ℤ, List, Bool, true, false, Option, Some, None, Result, Ok, Err, refl, sym, ap, ◌∙◌}
+use Rattle.std.proofs.Common.{◌≡◌, ℕ, ℤ, List, Bool, true, false, Option, Some, None, Result, Ok, Err, refl, sym, ap, subst, ◌∙◌}
 use Rattle.std.specs.Prelude.{int_lt, int_le, if◌then◌else◌}
+use Rattle.bor_records.specs.Promises.{Kept, Meaning, Promised}
 use Rattle.bor_register.specs.declared.caller.Caller.{Caller}
 use Rattle.bor_register.specs.declared.caller.Caller.TheVariants.{Registrar, Agent}
+use Rattle.bor_register.specs.declared.fault.StoreFault.{StoreFault}
 use Rattle.bor_register.specs.declared.filing.AcceptedFiling.{AcceptedFiling}
 use Rattle.bor_register.specs.Register.{Register, is_enrolled, is_taken, filing_keyed, with_filings}
 use Rattle.bor_register.specs.Publication.{line_of}
@@ -15,28 +17,23 @@ use Rattle.bor_desk.specs.Operations.Sight.{Outcome, Sight, sight_of}
 use Rattle.bor_desk.specs.Operations.Lodging.{addition, told_added, own_added, lodging_at, own_lodged_at}
 use Rattle.bor_desk.specs.Operations.Withdrawing.{withdrawal_at, own_withdrawn_at}
 use Rattle.bor_desk.specs.declared.request.Request.{Request}
-use Rattle.bor_desk.specs.declared.request.Request.TheVariants as ask
+use Rattle.bor_desk.specs.declared.request.Request.TheVariants as of
+use Rattle.bor_desk.specs.declared.request.AgentRequest.{AgentRequest}
+use Rattle.bor_desk.specs.declared.request.AgentRequest.TheVariants as ask
+use Rattle.bor_desk.specs.declared.request.RegistrarRequest.{RegistrarRequest}
+use Rattle.bor_desk.specs.declared.request.RegistrarRequest.TheVariants as office
 use Rattle.bor_desk.specs.declared.reply.DeskReply.{DeskReply}
 use Rattle.bor_desk.specs.declared.reply.DeskReply.TheVariants as tell
 use Rattle.bor_desk.specs.Refusals.{of_lodging, of_renewal, of_withdrawal}
-use Rattle.bor_desk.specs.Step.{Answer, exactly, report, evidence, entities, told, own_after, may_change_own, agent_step, registrar_step, step}
-use Rattle.bor_desk.specs.Outcomes.{IsTold}
+use Rattle.bor_desk.specs.Step.{Answer, exactly, report, evidence, entities, told, own_after, agent_step, registrar_step, step}
+use Rattle.bor_desk.specs.Outcomes.{IsTold, IsLeft}
 use Rattle.bor_desk.specs.Laws.{may_tell_a_change, RefusalChangesNothing, is_read, is_long, ReadsLeave}
 use Rattle.bor_desk.proofs.OnOperations.Renewals.{refused_renewal}
-use Rattle.bor_desk.proofs.Steps.{written_back}
+use Rattle.bor_desk.proofs.Steps.{left_same, written_back}
 
 -- an agent's request leaves the register where it leaves the agent's filings
-pub left_by_agent : (r : Register) (name : List ℕ) (request : Request) → own_after (sight_of name r) request ≡ (sight_of name r).own → (agent_step r name request).register ≡ r
+pub left_by_agent : (r : Register) (name : List ℕ) (request : AgentRequest) → own_after (sight_of name r) request ≡ (sight_of name r).own → (agent_step r name request).register ≡ r
 left_by_agent r name request same = ap (λ own. record r { members = with_filings name own r.members }) same ∙ written_back r name
-
-own_same : (s : Sight) (request : Request) → may_change_own request ≡ false → own_after s request ≡ s.own
-own_same s (ask.Lodge key due file) h = absurd cc
-own_same s (ask.Withdraw key) h = absurd cc
-own_same s request h = refl
-
--- so does each request but a lodging and a withdrawal
-pub same_own : (r : Register) (name : List ℕ) (request : Request) → may_change_own request ≡ false → (agent_step r name request).register ≡ r
-same_own r name request h = left_by_agent r name request (own_same (sight_of name r) request h)
 
 -- ---- a lodging and a withdrawal
 
@@ -60,29 +57,19 @@ unwithdrawn s (Some f) h = by_tests f.withdrawn (int_le f.due s.day) (has_succes
     by_tests false false true h = refl
     by_tests false false false h = absurd cc
 
-unchanged_by_agent : (r : Register) (name : List ℕ) (request : Request) → may_tell_a_change (agent_step r name request).answer ≡ false → own_after (sight_of name r) request ≡ (sight_of name r).own
+unchanged_by_agent : (r : Register) (name : List ℕ) (request : AgentRequest) → may_tell_a_change (agent_step r name request).answer ≡ false → own_after (sight_of name r) request ≡ (sight_of name r).own
 unchanged_by_agent r name (ask.Lodge key due file) h = let s = sight_of name r in unlodged s key due file (filing_keyed key s.own) h
 unchanged_by_agent r name (ask.Withdraw key) h = let s = sight_of name r in unwithdrawn s (filing_keyed key s.own) h
-unchanged_by_agent r name ask.Filings h = refl
-unchanged_by_agent r name (ask.File key) h = refl
-unchanged_by_agent r name ask.Published h = refl
-unchanged_by_agent r name (ask.Snapshot agent declaration date) h = refl
-unchanged_by_agent r name (ask.Chains entity date) h = refl
-unchanged_by_agent r name (ask.Evidence entity date) h = refl
-unchanged_by_agent r name (ask.Entities identifier date) h = refl
-unchanged_by_agent r name (ask.Day date) h = refl
-unchanged_by_agent r name (ask.Enrol new token) h = refl
-unchanged_by_agent r name (ask.Renew other token) h = refl
-unchanged_by_agent r name ask.Register h = refl
+unchanged_by_agent r name request h = refl
 
 -- ---- the registrar
 
-unadvanced : (r : Register) (date : ℤ) (back : Bool) → int_lt date r.day ≡ back → may_tell_a_change (registrar_step r (ask.Day date)).answer ≡ false → (registrar_step r (ask.Day date)).register ≡ r
+unadvanced : (r : Register) (date : ℤ) (back : Bool) → int_lt date r.day ≡ back → may_tell_a_change (registrar_step r (office.Day date)).answer ≡ false → (registrar_step r (office.Day date)).register ≡ r
 unadvanced r date true e h = rw e refl
 unadvanced r date false e h = absurd (let no = rw e at h in cc)
 
 unenrolled : (r : Register) (name token : List ℕ) (named taken : Bool) → is_enrolled name r.members ≡ named → is_taken token r ≡ taken →
-    may_tell_a_change (registrar_step r (ask.Enrol name token)).answer ≡ false → (registrar_step r (ask.Enrol name token)).register ≡ r
+    may_tell_a_change (registrar_step r (office.Enrol name token)).answer ≡ false → (registrar_step r (office.Enrol name token)).register ≡ r
 unenrolled r name token true taken e f h = rw e refl
 unenrolled r name token false true e f h = rw (e, f) refl
 unenrolled r name token false false e f h = absurd (let no = rw (e, f) at h in cc)
@@ -95,45 +82,51 @@ unrenewed r name token o is h = refused o.answer refl h
     refused (Ok told) e k = absurd cc
     refused (Err fault) e k = ap (λ (x : Outcome (Result (List ℕ) RenewFault)). x.register) (sym is) ∙ refused_renewal r name token fault (ap (λ (x : Outcome (Result (List ℕ) RenewFault)). x.answer) is ∙ e)
 
-unchanged_by_registrar : (r : Register) (request : Request) → may_tell_a_change (registrar_step r request).answer ≡ false → (registrar_step r request).register ≡ r
-unchanged_by_registrar r (ask.Day date) h = unadvanced r date (int_lt date r.day) refl h
-unchanged_by_registrar r (ask.Enrol name token) h = unenrolled r name token (is_enrolled name r.members) (is_taken token r) refl refl h
-unchanged_by_registrar r (ask.Renew name token) h = unrenewed r name token (renew_step r name token) refl h
-unchanged_by_registrar r ask.Register h = refl
-unchanged_by_registrar r (ask.Lodge key due file) h = refl
-unchanged_by_registrar r (ask.Withdraw key) h = refl
-unchanged_by_registrar r ask.Filings h = refl
-unchanged_by_registrar r (ask.File key) h = refl
-unchanged_by_registrar r ask.Published h = refl
-unchanged_by_registrar r (ask.Snapshot agent declaration date) h = refl
-unchanged_by_registrar r (ask.Chains entity date) h = refl
-unchanged_by_registrar r (ask.Evidence entity date) h = refl
-unchanged_by_registrar r (ask.Entities identifier date) h = refl
+unchanged_by_registrar : (r : Register) (request : RegistrarRequest) → may_tell_a_change (registrar_step r request).answer ≡ false → (registrar_step r request).register ≡ r
+unchanged_by_registrar r (office.Day date) h = unadvanced r date (int_lt date r.day) refl h
+unchanged_by_registrar r (office.Enrol name token) h = unenrolled r name token (is_enrolled name r.members) (is_taken token r) refl refl h
+unchanged_by_registrar r (office.Renew name token) h = unrenewed r name token (renew_step r name token) refl h
+unchanged_by_registrar r office.Register h = refl
 
 -- ---- refusals
 
 pub refusal_leaves : RefusalChangesNothing
 refusal_leaves r None request h = refl
-refusal_leaves r (Some Registrar) request h = unchanged_by_registrar r request h
-refusal_leaves r (Some (Agent name)) request h = left_by_agent r name request (unchanged_by_agent r name request h)
+refusal_leaves r (Some Registrar) (of.Registrar request) h = unchanged_by_registrar r request h
+refusal_leaves r (Some Registrar) (of.Agent request) h = refl
+refusal_leaves r (Some (Agent name)) (of.Agent request) h = left_by_agent r name request (unchanged_by_agent r name request h)
+refusal_leaves r (Some (Agent name)) (of.Registrar request) h = refl
 
 -- ---- reads
 
-read_is_no_change : (request : Request) → is_read request ≡ true → may_change_own request ≡ false
-read_is_no_change (ask.Lodge key due file) h = absurd cc
-read_is_no_change (ask.Withdraw key) h = absurd cc
-read_is_no_change request h = refl
+agent_reads : (r : Register) (name : List ℕ) (request : AgentRequest) → is_read (of.Agent request) ≡ true → (agent_step r name request).register ≡ r
+agent_reads r name (ask.Lodge key due file) h = absurd cc
+agent_reads r name (ask.Withdraw key) h = absurd cc
+agent_reads r name request h = written_back r name
 
-registrar_reads : (r : Register) (request : Request) → is_read request ≡ true → (registrar_step r request).register ≡ r
-registrar_reads r (ask.Day date) h = absurd cc
-registrar_reads r (ask.Enrol name token) h = absurd cc
-registrar_reads r (ask.Renew name token) h = absurd cc
-registrar_reads r request h = refl
+-- the register that was shown is shown and left by a request that only reads
+module _ {S W : Type 0} (meaning : Meaning S Register W StoreFault) (old new : S) (name : List ℕ) (request known : AgentRequest) (is : request ≡ known) (reads : is_read (of.Agent known) ≡ true) (kept : Kept meaning old new) where
+  still : (r : Register) → (agent_step r name request).register ≡ r
+  still r = agent_reads r name request (ap (λ (q : AgentRequest). is_read (of.Agent q)) is ∙ reads)
+
+  pub shown_reading : Promised meaning old new (λ r. meaning.shows new (agent_step r name request).register)
+  shown_reading = λ r shown clean. subst (meaning.shows new) (sym (still r)) ((kept.same clean r).0 shown)
+
+  pub left_reading : (reply : DeskReply) → Promised meaning old new (λ r. IsLeft reply (meaning.shows new) r (agent_step r name request).register)
+  left_reading reply = λ r shown clean. left_same reply (meaning.shows new) r _ (still r) ((kept.same clean r).0 shown)
+
+registrar_reads : (r : Register) (request : RegistrarRequest) → is_read (of.Registrar request) ≡ true → (registrar_step r request).register ≡ r
+registrar_reads r (office.Day date) h = absurd cc
+registrar_reads r (office.Enrol name token) h = absurd cc
+registrar_reads r (office.Renew name token) h = absurd cc
+registrar_reads r office.Register h = refl
 
 reads_leave_by_request : (r : Register) (caller : Option Caller) (request : Request) → is_read request ≡ true → (step r caller request).register ≡ r
 reads_leave_by_request r None request h = refl
-reads_leave_by_request r (Some Registrar) request h = registrar_reads r request h
-reads_leave_by_request r (Some (Agent name)) request h = same_own r name request (read_is_no_change request h)
+reads_leave_by_request r (Some Registrar) (of.Registrar request) h = registrar_reads r request h
+reads_leave_by_request r (Some Registrar) (of.Agent request) h = refl
+reads_leave_by_request r (Some (Agent name)) (of.Agent request) h = agent_reads r name request h
+reads_leave_by_request r (Some (Agent name)) (of.Registrar request) h = refl
 
 -- a reply of any length tells of no change
 long_is_unchanged : (reply : DeskReply) → is_long reply ≡ true → may_tell_a_change (exactly reply) ≡ false

@@ -31,8 +31,11 @@ use Rattle.bor_records.specs.Links.Shown.{Shown}
 use Rattle.bor_records.specs.Links.Aliases.{Alias}
 use Rattle.bor_chains.specs.Chains.{IsJoinedBy}
 use Rattle.bor_records.proofs.OnLinks.Found.{here, there}
-use Rattle.bor_desk.specs.declared.request.Request.{Request}
-use Rattle.bor_desk.specs.declared.request.Request.TheVariants as ask
+use Rattle.bor_desk.specs.declared.request.Request.TheVariants as of
+use Rattle.bor_desk.specs.declared.request.AgentRequest.{AgentRequest}
+use Rattle.bor_desk.specs.declared.request.AgentRequest.TheVariants as ask
+use Rattle.bor_desk.specs.declared.request.RegistrarRequest.{RegistrarRequest}
+use Rattle.bor_desk.specs.declared.request.RegistrarRequest.TheVariants as office
 use Rattle.bor_desk.specs.declared.reply.DeskReply.TheVariants as tell
 use Rattle.bor_desk.specs.declared.refusal.Refusal.TheVariants.{NoAgent}
 use Rattle.bor_desk.specs.Step.{Answer, exactly, report, evidence, refused}
@@ -110,11 +113,11 @@ start =
       members = with_member (new_member (codes "alder") (codes "alder-token-000001")) (with_member (new_member (codes "birch") (codes "birch-token-000001")) empty.members);
     }
 
-abbrev by_alder : Request → Asked
-by_alder request = record { token = codes "alder-token-000001"; request = request }
+abbrev by_alder : AgentRequest → Asked
+by_alder request = record { token = codes "alder-token-000001"; request = of.Agent request }
 
-abbrev by_birch : Request → Asked
-by_birch request = record { token = codes "birch-token-000001"; request = request }
+abbrev by_birch : AgentRequest → Asked
+by_birch request = record { token = codes "birch-token-000001"; request = of.Agent request }
 
 -- what alder asks in each world
 abbrev asked : List Asked
@@ -415,11 +418,11 @@ cedar = codes "cedar"
 abbrev cedars_token : List ℕ
 cedars_token = codes "cedar-token-000001"
 
-abbrev by_cedar : Request → Asked
-by_cedar request = record { token = cedars_token; request = request }
+abbrev by_cedar : AgentRequest → Asked
+by_cedar request = record { token = cedars_token; request = of.Agent request }
 
-abbrev by_registrar : Request → Asked
-by_registrar request = record { token = codes "registrar-token-0001"; request = request }
+abbrev by_registrar : RegistrarRequest → Asked
+by_registrar request = record { token = codes "registrar-token-0001"; request = of.Registrar request }
 
 -- cedar asks before it is enrolled; birch publishes two filings and alder, on the next day, one; then cedar is enrolled, and asks again
 abbrev third : List Asked
@@ -429,8 +432,8 @@ third =
     ∷ by_alder (ask.Lodge (codes "g1") tomorrow g1)
     ∷ by_birch (ask.Lodge (codes "x1") today x1)
     ∷ by_alder ask.Published
-    ∷ by_registrar (ask.Day tomorrow)
-    ∷ by_registrar (ask.Enrol cedar cedars_token)
+    ∷ by_registrar (office.Day tomorrow)
+    ∷ by_registrar (office.Enrol cedar cedars_token)
     ∷ by_cedar ask.Published
     ∷ by_alder ask.Filings
     ∷ by_cedar ask.Filings
@@ -446,8 +449,8 @@ of_birch = record { agent = codes "birch"; due = today; statements = b1 ∷ bp �
 abbrev of_both : List Outward
 of_both = record { agent = codes "alder"; due = tomorrow; statements = e1 ∷ a1 ∷ r1 ∷ [] } ∷ of_birch
 
-abbrev occasion : ℤ → List Outward → Request → Occasion
-occasion day others request = record { day = day; others = others; request = request }
+abbrev occasion : ℤ → List Outward → AgentRequest → Occasion
+occasion day others request = record { day = day; others = others; request = of.Agent request }
 
 -- 19: each request is answered, in order
 all_answers : answers start third

@@ -7,21 +7,23 @@ use Rattle.bor_records.specs.Links.Rows.{shown_of}
 use Rattle.bor_chains.specs.Chains.{AreJoined}
 use Rattle.bor_chains.specs.Laws.{dated_by}
 use Rattle.bor_register.specs.declared.caller.Caller.{Caller}
-use Rattle.bor_register.specs.declared.caller.Caller.TheVariants.{Agent}
+use Rattle.bor_register.specs.declared.caller.Caller.TheVariants.{Registrar, Agent}
 use Rattle.bor_register.specs.Register.{Register, caller_of, filings_of}
 use Rattle.bor_desk.specs.Operations.Legality.{IsLegal}
 use Rattle.bor_desk.specs.Operations.Laws.{KeepsAgents, LeavesOthers, RenewsToken}
 use Rattle.bor_desk.specs.Operations.Sight.{seen_by}
 use Rattle.bor_desk.specs.Operations.Solo.{alone}
 use Rattle.bor_desk.specs.declared.request.Request.{Request}
-use Rattle.bor_desk.specs.declared.request.Request.TheVariants as ask
+use Rattle.bor_desk.specs.declared.request.Request.TheVariants as of
+use Rattle.bor_desk.specs.declared.request.AgentRequest.{AgentRequest}
+use Rattle.bor_desk.specs.declared.request.AgentRequest.TheVariants as ask
+use Rattle.bor_desk.specs.declared.request.RegistrarRequest.TheVariants as office
 use Rattle.bor_desk.specs.declared.reply.DeskReply.{DeskReply}
 use Rattle.bor_desk.specs.declared.reply.DeskReply.TheVariants as tell
 use Rattle.bor_desk.specs.declared.evidence.lines.EntityEvidence.{EntityEvidence}
 use Rattle.bor_desk.specs.Evidence.{IsEntityEvidence, without_first}
 use Rattle.bor_desk.specs.Outcomes.{IsTold, IsAnswered}
 use Rattle.bor_desk.specs.Step.{Answer, exactly, chains_answer, evidence_answer, step, agent_step}
-use Rattle.bor_desk.specs.Step.{registrar_step}
 use Rattle.bor_desk.specs.Runs.{Asked, answers, register_after, history, answers_to, solo}
 
 -- whether the caller is this agent
@@ -31,7 +33,7 @@ is_agent name caller = false
 
 -- the registrar's request leaves each agent as it was, but for the token that it renews
 abbrev pub IsLeftBy : Request → Register → Register → Type 0
-IsLeftBy (ask.Renew name token) old new = RenewsToken name old new
+IsLeftBy (of.Registrar (office.Renew name token)) old new = RenewsToken name old new
 IsLeftBy request old new = KeepsAgents old new
 
 -- After an exchange the filings of all agents but the one that asks are as they were. After an
@@ -42,9 +44,9 @@ pub record OwnFilingsUntouched : Type 0 where
       → is_agent name caller ≡ false →
       filings_of name (step r caller request).register.members ≡ filings_of name r.members
   pub by_an_agent : (r : Register) (name : List ℕ) (request : Request)
-      → LeavesOthers name r (agent_step r name request).register
+      → LeavesOthers name r (step r (Some (Agent name)) request).register
   pub by_the_registrar : (r : Register) (request : Request)
-      → IsLeftBy request r (registrar_step r request).register
+      → IsLeftBy request r (step r (Some Registrar) request).register
   pub by_nobody : (r : Register) (request : Request) → (step r None request).register ≡ r
 
 -- whether the answer may be that of a change: a filing that is lodged and wasn't before, a
@@ -66,15 +68,11 @@ RefusalChangesNothing =
 
 -- whether the request only reads
 abbrev pub is_read : Request → Bool
-is_read ask.Filings = true
-is_read (ask.File key) = true
-is_read ask.Published = true
-is_read (ask.Snapshot agent declaration date) = true
-is_read (ask.Chains entity date) = true
-is_read (ask.Evidence entity date) = true
-is_read (ask.Entities identifier date) = true
-is_read ask.Register = true
-is_read request = false
+is_read (of.Agent (ask.Lodge key due file)) = false
+is_read (of.Agent (ask.Withdraw key)) = false
+is_read (of.Agent request) = true
+is_read (of.Registrar office.Register) = true
+is_read (of.Registrar request) = false
 
 -- whether the reply is to a request that only reads, a refusal apart: it may be of any length
 abbrev pub is_long : DeskReply → Bool
@@ -116,15 +114,16 @@ StepStaysLegal =
 -- The answer to an agent, and its filings after it, are the same as they would be alone with what
 -- the others have published.
 pub record IsAsAlone (r : Register) (name : List ℕ) (request : Request) : Type 0 where
-  pub answer : (agent_step (alone name r) name request).answer ≡ (agent_step r name request).answer
-  pub filings : filings_of name (agent_step (alone name r) name request).register.members
-      ≡ filings_of name (agent_step r name request).register.members
+  pub answer : (step (alone name r) (Some (Agent name)) request).answer
+      ≡ (step r (Some (Agent name)) request).answer
+  pub filings : filings_of name (step (alone name r) (Some (Agent name)) request).register.members
+      ≡ filings_of name (step r (Some (Agent name)) request).register.members
 
 -- the reply to an agent is the one that it would receive alone; of a reply to anybody else nothing
 -- is said here
 abbrev pub IsToldAlone : DeskReply → Option Caller → Register → Request → Type 0
 IsToldAlone reply (Some (Agent name)) r request =
-    IsAnswered reply (agent_step (alone name r) name request).answer
+    IsAnswered reply (step (alone name r) (Some (Agent name)) request).answer
 IsToldAlone reply caller r request = Unit {0}
 
 abbrev pub OneExchangeAlone : Type 0
@@ -150,7 +149,7 @@ pub record IsolationOfHistories : Type 0 where
       → history name r run ≡ history name q other → answers_to name r run ≡ answers_to name q other
 
 -- the date of a request for a snapshot, a report or evidence, where it names one
-abbrev pub date_of : Request → Option ℤ
+abbrev pub date_of : AgentRequest → Option ℤ
 date_of (ask.Snapshot agent declaration date) = date
 date_of (ask.Chains entity date) = date
 date_of (ask.Evidence entity date) = date
@@ -161,7 +160,7 @@ date_of request = None
 -- else the registers hold: statements dated later, and filings that the agent doesn't see.
 abbrev pub LaterStatementsChangeNoAnswer : Type 0
 LaterStatementsChangeNoAnswer =
-    (name : List ℕ) (day : ℤ) (r q : Register) (request : Request) (reply : DeskReply)
+    (name : List ℕ) (day : ℤ) (r q : Register) (request : AgentRequest) (reply : DeskReply)
     → date_of request ≡ Some day
     → dated_by day (seen_by name r) ≡ dated_by day (seen_by name q)
     → IsTold (agent_step r name request).answer reply

@@ -17,7 +17,8 @@ use Rattle.bor_register.specs.declared.fault.StoreFault.{StoreFault}
 use Rattle.bor_register.specs.Register.{Register, IsOrdered}
 use Rattle.bor_desk.specs.Operations.Outcomes.{ByStore}
 use Rattle.bor_desk.specs.declared.request.Request.{Request}
-use Rattle.bor_desk.specs.declared.request.Request.TheVariants as ask
+use Rattle.bor_desk.specs.declared.request.Request.TheVariants as of
+use Rattle.bor_desk.specs.declared.request.AgentRequest.TheVariants as ask
 use Rattle.bor_desk.specs.declared.reply.DeskReply.{DeskReply}
 use Rattle.bor_desk.specs.declared.reply.DeskReply.TheVariants as tell
 use Rattle.bor_desk.specs.declared.refusal.DeskFault.{DeskFault}
@@ -59,7 +60,7 @@ IsAnswered reply answer = ByStore (fault_of reply) (IsTold answer reply) (λ fau
 -- in order of their names, since where a name stood twice the rows would be those of the first that
 -- has it; of any other request, all.
 abbrev pub IsOrderedFor : Request → Register → Type 0
-IsOrderedFor (ask.Snapshot agent declaration date) r = IsOrdered r.members
+IsOrderedFor (of.Agent (ask.Snapshot agent declaration date)) r = IsOrdered r.members
 IsOrderedFor request r = Unit {0}
 
 -- The step's register is shown; a reply that has a fault of the store leaves the register as it

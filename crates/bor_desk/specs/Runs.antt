@@ -9,7 +9,7 @@ use Rattle.bor_register.specs.Register.{Register, caller_of, filings_of}
 use Rattle.bor_desk.specs.Operations.Sight.{Outcome}
 use Rattle.bor_desk.specs.Operations.Solo.{published_beside, solo_register}
 use Rattle.bor_desk.specs.declared.request.Request.{Request}
-use Rattle.bor_desk.specs.Step.{Answer, step, agent_step}
+use Rattle.bor_desk.specs.Step.{Answer, step}
 
 -- ---- a run
 
@@ -84,5 +84,5 @@ answers_to name r run = told_to name r run (answers r run)
 abbrev pub solo : List ℕ → List AcceptedFiling → List Occasion → List Answer
 solo name own [] = []
 solo name own (e ∷ rest) =
-    let o = agent_step (solo_register name own e.day e.others) name e.request in
+    let o = step (solo_register name own e.day e.others) (Some (Agent name)) e.request in
     o.answer ∷ solo name (filings_of name o.register.members) rest

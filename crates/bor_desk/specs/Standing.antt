@@ -1,7 +1,7 @@
 -- Laws of what stands once it is published, and of what the registrar is told.
 use Rattle.std.specs.Prelude.{◌≡◌, ◌≢◌, ◌⊎◌, ℕ, int_le, List, [], ◌∷◌, filter, true, Some, None}
 use Rattle.std.specs.Prelude.{Ok}
-use Rattle.bor_register.specs.declared.caller.Caller.TheVariants.{Agent}
+use Rattle.bor_register.specs.declared.caller.Caller.TheVariants.{Registrar, Agent}
 use Rattle.bor_register.specs.declared.filing.AcceptedFiling.{AcceptedFiling}
 use Rattle.bor_register.specs.Live.{live_of}
 use Rattle.bor_register.specs.Publication.{is_published, published}
@@ -11,7 +11,7 @@ use Rattle.bor_desk.specs.Operations.Laws.{IsPrefix, agents_of, live_series}
 use Rattle.bor_desk.specs.Operations.Legality.{IsLegal}
 use Rattle.bor_desk.specs.Operations.Registrar.{renew_step}
 use Rattle.bor_desk.specs.Runs.{Asked, register_after}
-use Rattle.bor_desk.specs.Step.{registrar_step}
+use Rattle.bor_desk.specs.Step.{step}
 
 -- ---- what is published
 
@@ -55,7 +55,7 @@ pub record IsOutwardlySame (r q : Register) : Type 0 where
 abbrev pub RegistrarSeesNoDraft : Type 0
 RegistrarSeesNoDraft =
     (r q : Register) (request : Request) → IsLegal r → IsLegal q → IsOutwardlySame r q
-    → (registrar_step r request).answer ≡ (registrar_step q request).answer
+    → (step r (Some Registrar) request).answer ≡ (step q (Some Registrar) request).answer
 
 -- ---- a token that is renewed
 

@@ -1,5 +1,5 @@
 -- The answer to each request, and the register after it (this register's own rules).
-use Rattle.std.specs.Prelude.{ℕ, ℤ, Bool, true, false, List, map, Option, Some, None, unwrap_or}
+use Rattle.std.specs.Prelude.{ℕ, ℤ, List, map, Option, Some, None, unwrap_or}
 use Rattle.std.specs.Prelude.{Result, Ok, Err, if◌then◌else◌}
 use Rattle.bods_read.specs.declared.details.Identifier.{Identifier}
 use Rattle.bor_records.specs.declared.row.Row.{Row}
@@ -18,7 +18,11 @@ use Rattle.bor_desk.specs.Operations.Lodging.{lodging, own_lodged}
 use Rattle.bor_desk.specs.Operations.Withdrawing.{withdrawal, own_withdrawn}
 use Rattle.bor_desk.specs.Operations.Registrar.{advance_step, enrol_step, renew_step}
 use Rattle.bor_desk.specs.declared.request.Request.{Request}
-use Rattle.bor_desk.specs.declared.request.Request.TheVariants as ask
+use Rattle.bor_desk.specs.declared.request.Request.TheVariants as of
+use Rattle.bor_desk.specs.declared.request.AgentRequest.{AgentRequest}
+use Rattle.bor_desk.specs.declared.request.AgentRequest.TheVariants as ask
+use Rattle.bor_desk.specs.declared.request.RegistrarRequest.{RegistrarRequest}
+use Rattle.bor_desk.specs.declared.request.RegistrarRequest.TheVariants as office
 use Rattle.bor_desk.specs.declared.reply.DeskReply.{DeskReply}
 use Rattle.bor_desk.specs.declared.reply.DeskReply.TheVariants as tell
 use Rattle.bor_desk.specs.declared.refusal.Refusal.{Refusal}
@@ -79,7 +83,7 @@ evidence_answer seen entity day =
     else refused NoEntity
 
 -- An absent date is the register's day.
-abbrev pub agent_answer : Sight → Request → Answer
+abbrev pub agent_answer : Sight → AgentRequest → Answer
 agent_answer s (ask.Lodge key due file) = told tell.Lodged of_lodging (lodging s key due file)
 agent_answer s (ask.Withdraw key) = told tell.Withdrawn of_withdrawal (withdrawal s key)
 agent_answer s ask.Filings = exactly (tell.Filings (map (line_of s.day) s.own))
@@ -90,18 +94,14 @@ agent_answer s (ask.Snapshot agent declaration date) =
 agent_answer s (ask.Chains entity date) = chains_answer s.seen entity (unwrap_or date s.day)
 agent_answer s (ask.Evidence entity date) = evidence_answer s.seen entity (unwrap_or date s.day)
 agent_answer s (ask.Entities identifier date) = entities identifier (unwrap_or date s.day) s.seen
-agent_answer s (ask.Day date) = refused NotRegistrar
-agent_answer s (ask.Enrol name token) = refused NotRegistrar
-agent_answer s (ask.Renew name token) = refused NotRegistrar
-agent_answer s ask.Register = refused NotRegistrar
 
 -- the agent's filings after its request
-abbrev pub own_after : Sight → Request → List AcceptedFiling
+abbrev pub own_after : Sight → AgentRequest → List AcceptedFiling
 own_after s (ask.Lodge key due file) = own_lodged s key due file
 own_after s (ask.Withdraw key) = own_withdrawn s key
 own_after s request = s.own
 
-abbrev pub agent_step : Register → List ℕ → Request → Outcome Answer
+abbrev pub agent_step : Register → List ℕ → AgentRequest → Outcome Answer
 agent_step r name request =
     let s = sight_of name r in
     record {
@@ -112,37 +112,30 @@ agent_step r name request =
 
 -- ---- the answer to the registrar
 
-abbrev pub refuses : Register → Refusal → Outcome Answer
-refuses r why = record { answer = refused why; register = r }
-
 abbrev pub told_step : {A E : Type 0} → (A → DeskReply) → (E → DeskFault) → Outcome (Result A E)
     → Outcome Answer
 told_step reply fault o = record { answer = told reply fault o.answer; register = o.register }
 
-abbrev pub registrar_step : Register → Request → Outcome Answer
-registrar_step r (ask.Day date) = told_step tell.Day of_advance (advance_step r date)
-registrar_step r (ask.Enrol name token) =
+abbrev pub registrar_step : Register → RegistrarRequest → Outcome Answer
+registrar_step r (office.Day date) = told_step tell.Day of_advance (advance_step r date)
+registrar_step r (office.Enrol name token) =
     told_step tell.Enrolled of_enrolment (enrol_step r name token)
-registrar_step r (ask.Renew name token) =
+registrar_step r (office.Renew name token) =
     told_step tell.Renewed of_renewal (renew_step r name token)
-registrar_step r ask.Register = record {
+registrar_step r office.Register = record {
   answer = exactly (tell.Register (map (agent_line r.day) r.members) r.day);
   register = r;
 }
-registrar_step r request = refuses r NotAgent
 
 -- ---- the step
 
--- The token says who asks: nobody, the registrar or an agent.
+abbrev pub refuses : Register → Refusal → Outcome Answer
+refuses r why = record { answer = refused why; register = r }
+
+-- The token says who asks: nobody, the registrar or an agent. Each may ask its own requests.
 abbrev pub step : Register → Option Caller → Request → Outcome Answer
 step r None request = refuses r NoAgent
-step r (Some Registrar) request = registrar_step r request
-step r (Some (Agent name)) request = agent_step r name request
-
--- ---- for a clause of a private function alone
-
--- whether the request may change the agent's filings
-abbrev pub may_change_own : Request → Bool
-may_change_own (ask.Lodge key due file) = true
-may_change_own (ask.Withdraw key) = true
-may_change_own request = false
+step r (Some Registrar) (of.Registrar request) = registrar_step r request
+step r (Some Registrar) (of.Agent request) = refuses r NotAgent
+step r (Some (Agent name)) (of.Agent request) = agent_step r name request
+step r (Some (Agent name)) (of.Registrar request) = refuses r NotRegistrar

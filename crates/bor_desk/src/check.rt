@@ -1,6 +1,6 @@
 //! The check of a file.
 
-ghost use Rattle.std.specs.Prelude.{◌≡◌, ◌++◌, codes, IfOk, IfErr, OnOk};
+ghost use Rattle.std.specs.Prelude.{◌≡◌, ◌++◌, codes, IfOk, IfErr, OnOk, true};
 ghost use Rattle.bor_register.specs.declared.fault.StoreFault.TheVariants.{Memory};
 ghost use Rattle.bor_register.specs.Register.{empty_register};
 ghost use Rattle.bor_desk.specs.Texts.{answering, accepted_line, outward_lines};
@@ -9,69 +9,37 @@ ghost use Rattle.bor_desk.specs.CheckReport.{check_day, check_register, check_st
 use crate::operations::{Keep, ListKeep, Lodged, Outward, StoreFault, lodge};
 use crate::refusal::DeskFault;
 use crate::text::{Text, add_accepted, add_outwards, answering, refused_as, refused_text};
-use bor_terms::{AgentName, Day, LodgeKey, Token};
+use bor_terms::{AgentName, Day, Form, LodgeKey, Token};
 use std::alloc::{AllocError, Global};
 
 /// The greatest file that is checked, in bytes.
 pub const FILE_LIMIT: usize = 1_048_576;
 
-#[tactic(auto, unfolding(bor_terms::specs::Texts::is_agent_name))]
-fn check_agent(alloc: Global) -> Result<AgentName, AllocError>
-    ensures { IfOk result (λ name. name ≡ codes "check") }
+// A text that has its form.
+fn constant<F: Form>(alloc: Global, text: &str) -> Result<bor_terms::Text<F>, AllocError>
+    requires { F.is_form text.now ≡ true }
+    ensures { IfOk result (λ made. made ≡ text.now) }
 {
-    let Some(name) = AgentName::read(alloc, "check")? else {
-        unreachable!()
-    };
-    Ok(name)
-}
-
-#[tactic(auto, unfolding(bor_terms::specs::Texts::is_lodge_key))]
-fn check_key(alloc: Global) -> Result<LodgeKey, AllocError>
-    ensures { IfOk result (λ key. key ≡ codes "check") }
-{
-    let Some(key) = LodgeKey::read(alloc, "check")? else {
-        unreachable!()
-    };
-    Ok(key)
-}
-
-#[tactic(auto, unfolding(bor_terms::specs::Texts::is_token))]
-fn registrar_token(alloc: Global) -> Result<Token, AllocError>
-    ensures { IfOk result (λ token. token ≡ codes "check-registrar-0001") }
-{
-    let Some(token) = Token::read(alloc, "check-registrar-0001")? else {
-        unreachable!()
-    };
-    Ok(token)
-}
-
-#[tactic(auto, unfolding(bor_terms::specs::Texts::is_token))]
-fn agent_token(alloc: Global) -> Result<Token, AllocError>
-    ensures { IfOk result (λ token. token ≡ codes "check-token-0001") }
-{
-    let Some(token) = Token::read(alloc, "check-token-0001")? else {
-        unreachable!()
-    };
-    Ok(token)
+    bor_terms::Text::new(alloc, String::from_str(alloc, text)?)
 }
 
 // The day on which a file is checked, 2000-01-01.
 fn check_day() -> Day
     ensures { result ≡ check_day }
 {
-    let Some(day) = Day::from_number(10_957) else {
-        unreachable!()
-    };
-    day
+    Day::from_number(10_957).unwrap()
 }
 
 // Enrols the agent that lodges the file, in a new register.
+#[tactic(auto, unfolding(bor_terms::specs::Texts::is_agent_name, bor_terms::specs::Texts::is_token))]
 fn enrol_agent(alloc: Global, keep: &mut ListKeep) -> Result<(), StoreFault>
     requires { keep.old.register ≡ empty_register (codes "check-registrar-0001") check_day }
     ensures shown { OnOk result (keep.new.register ≡ check_register) }
     ensures err { IfErr result (λ fault. fault ≡ Memory) }
 {
-    keep.add_agent(&check_agent(alloc)?, &agent_token(alloc)?)?;
+    let agent: AgentName = constant(alloc, "check")?;
+    let token: Token = constant(alloc, "check-token-0001")?;
+    keep.add_agent(&agent, &token)?;
     Ok(())
 }
 
@@ -95,24 +63,26 @@ fn fault_text(alloc: Global, fault: DeskFault) -> Result<Text, StoreFault>
 }
 
 // The reply to the lodging of a file by that agent, and the outward form that is published then.
+#[tactic(auto, unfolding(bor_terms::specs::Texts::is_agent_name, bor_terms::specs::Texts::is_lodge_key))]
 fn lodged_in(alloc: Global, keep: &mut ListKeep, bytes: &[u8]) -> Result<Text, StoreFault>
     requires { keep.old.register ≡ check_register }
     ensures text { IfOk result (λ text. text ≡ outcome_text (check_step bytes.now)) }
     ensures err { IfErr result (λ fault. fault ≡ Memory) }
 {
-    let agent = check_agent(alloc)?;
-    let key = check_key(alloc)?;
+    let agent: AgentName = constant(alloc, "check")?;
+    let key: LodgeKey = constant(alloc, "check")?;
     match lodge(alloc, keep, &agent, &key, check_day(), bytes) {
         Ok(lodged) => Ok(accepted(alloc, &lodged, &keep.published()?)?),
         Err(fault) => fault_text(alloc, DeskFault::from(fault)),
     }
 }
 
+#[tactic(auto, unfolding(bor_terms::specs::Texts::is_token))]
 fn lodged_text(alloc: Global, bytes: &[u8]) -> Result<Text, StoreFault>
     ensures text { IfOk result (λ text. text ≡ outcome_text (check_step bytes.now)) }
     ensures err { IfErr result (λ fault. fault ≡ Memory) }
 {
-    let token = registrar_token(alloc)?;
+    let token: Token = constant(alloc, "check-registrar-0001")?;
     let mut keep = ListKeep::new(alloc, token, check_day());
     enrol_agent(alloc, &mut keep)?;
     lodged_in(alloc, &mut keep, bytes)

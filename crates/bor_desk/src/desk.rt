@@ -4,10 +4,11 @@ ghost use Rattle.std.specs.Prelude.{◌≡◌, IfOk, IfErr, unwrap_or, true, fal
 ghost use Rattle.bor_register.specs.Register.{Register, IsOrdered, caller_of, is_enrolled, filings_of, filing_keyed};
 ghost use Rattle.bor_records.specs.Promises.{Kept, Leaves, Promised, Reads, Sure};
 ghost use Rattle.bor_desk.specs.Operations.Legality.{IsLegal};
-ghost use Rattle.bor_desk.specs.Operations.Sight.{seen_by, sight_of};
+ghost use Rattle.bor_desk.specs.Operations.Sight.{seen_by};
 ghost use Rattle.bor_desk.specs.Operations.Outcomes.{Accounts};
-ghost use Rattle.bor_desk.specs.Step.{entities, step, agent_answer, agent_step, may_change_own, registrar_step, file_answer, chains_answer, evidence_answer, snapshot_answer};
-ghost use Rattle.bor_desk.specs.declared.request.Request.TheVariants as ask;
+ghost use Rattle.bor_desk.specs.Step.{entities, step, agent_step, registrar_step, file_answer, chains_answer, evidence_answer, snapshot_answer};
+ghost use Rattle.bor_desk.specs.declared.request.Request.TheVariants as of;
+ghost use Rattle.bor_desk.specs.declared.request.RegistrarRequest.TheVariants as office;
 ghost use Rattle.bor_desk.specs.Laws.{IsToldAlone};
 ghost use Rattle.bor_desk.specs.Outcomes.{fault_of, UnlessReplyFailed, IsAnswered, IsLeft, IsNamed, IsOrderedFor, agent_of, reply_of, denial};
 
@@ -16,7 +17,7 @@ use crate::operations::{Caller, Keep, StoreFault, advance, enrol, lodge, renew, 
 use crate::refusal::{DeskFault, Refusal};
 use crate::reply::{Answered, DeskReply};
 use crate::report::persons_seen;
-use crate::request::Request;
+use crate::request::{AgentRequest, RegistrarRequest, Request};
 use bods_read::Identifier;
 use bor_chains::Node;
 use bor_records::snapshot;
@@ -155,53 +156,18 @@ fn entities_for<K: Keep>(
     })
 }
 
-// The answer to an agent where its filings stay as they are: the data that it reads, or that it
-// isn't the registrar.
-fn tell_agent<K: Keep>(
-    alloc: Global,
-    keep: &mut K,
-    name: &AgentName,
-    request: &Request,
-) -> Result<DeskReply, DeskFault>
-    requires { may_change_own request.now ≡ false }
-    ensures kept { Kept K.meaning keep.old keep.new }
-    ensures accounted { Accounts K.meaning keep.old keep.new (fault_of (reply_of result)) }
-    ensures answer { Promised K.meaning keep.old keep.new (λ r.
-        IsOrderedFor request.now r
-        → IsAnswered (reply_of result) (agent_answer (sight_of name.now r) request.now)) }
-{
-    match request {
-        Request::Filings => Ok(DeskReply::Filings(Listed::new(keep.filings(name)?))),
-        Request::File { key } => file_for(keep, name, key),
-        Request::Published => Ok(DeskReply::Published(Listed::new(keep.published()?))),
-        Request::Snapshot {
-            agent,
-            declaration,
-            date,
-        } => snapshot_for(alloc, keep, name, agent, declaration, *date),
-        Request::Chains { entity, date } => chains_for(alloc, keep, name, entity, *date),
-        Request::Evidence { entity, date } => evidence_for(alloc, keep, name, entity, *date),
-        Request::Entities { identifier, date } => {
-            entities_for(alloc, keep, name, identifier, *date)
-        }
-        Request::Day { .. } | Request::Enrol { .. } | Request::Renew { .. } | Request::Register =>
-            Err(DeskFault::Refused(Refusal::NotRegistrar)),
-        Request::Withdraw { .. } | Request::Lodge { .. } => unreachable!(),
-    }
-}
-
 fn answer_agent<K: Keep>(
     alloc: Global,
     keep: &mut K,
     name: &AgentName,
-    request: &Request,
+    request: &AgentRequest,
 ) -> Result<DeskReply, DeskFault>
     requires enrolled { Sure K.meaning keep.old (λ r.
         is_enrolled name.now r.members ≡ true) }
     ensures leaves { Leaves K.meaning keep.old keep.new
         (λ r left. K.meaning.left_shows left (agent_step r name.now request.now).register) }
     ensures step { Promised K.meaning keep.old keep.new (λ r.
-        IsOrderedFor request.now r
+        IsOrderedFor (of.Agent request.now) r
         → IsAnswered (reply_of result) (agent_step r name.now request.now).answer) }
     ensures left { Promised K.meaning keep.old keep.new (λ r.
         IsLeft (reply_of result) (K.meaning.shows keep.new) r
@@ -209,7 +175,7 @@ fn answer_agent<K: Keep>(
     ensures accounted { Accounts K.meaning keep.old keep.new (fault_of (reply_of result)) }
 {
     match request {
-        Request::Lodge { key, due, file } => Ok(DeskReply::Lodged(lodge(
+        AgentRequest::Lodge { key, due, file } => Ok(DeskReply::Lodged(lodge(
             alloc,
             keep,
             name,
@@ -217,8 +183,20 @@ fn answer_agent<K: Keep>(
             *due,
             file.as_slice(),
         )?)),
-        Request::Withdraw { key } => Ok(DeskReply::Withdrawn(withdraw(keep, name, key)?)),
-        _ => tell_agent(alloc, keep, name, request),
+        AgentRequest::Withdraw { key } => Ok(DeskReply::Withdrawn(withdraw(keep, name, key)?)),
+        AgentRequest::Filings => Ok(DeskReply::Filings(Listed::new(keep.filings(name)?))),
+        AgentRequest::File { key } => file_for(keep, name, key),
+        AgentRequest::Published => Ok(DeskReply::Published(Listed::new(keep.published()?))),
+        AgentRequest::Snapshot {
+            agent,
+            declaration,
+            date,
+        } => snapshot_for(alloc, keep, name, agent, declaration, *date),
+        AgentRequest::Chains { entity, date } => chains_for(alloc, keep, name, entity, *date),
+        AgentRequest::Evidence { entity, date } => evidence_for(alloc, keep, name, entity, *date),
+        AgentRequest::Entities { identifier, date } => {
+            entities_for(alloc, keep, name, identifier, *date)
+        }
     }
 }
 
@@ -227,7 +205,7 @@ fn overview<K: Keep>(keep: &mut K) -> Result<DeskReply, DeskFault>
     ensures kept { Kept K.meaning keep.old keep.new }
     ensures accounted { Accounts K.meaning keep.old keep.new (fault_of (reply_of result)) }
     ensures answer { Promised K.meaning keep.old keep.new (λ r.
-        IsAnswered (reply_of result) (registrar_step r ask.Register).answer) }
+        IsAnswered (reply_of result) (registrar_step r office.Register).answer) }
 {
     let agents = keep.agents()?;
     let day = keep.day()?;
@@ -240,7 +218,7 @@ fn overview<K: Keep>(keep: &mut K) -> Result<DeskReply, DeskFault>
 fn answer_registrar<K: Keep>(
     alloc: Global,
     keep: &mut K,
-    request: &Request,
+    request: &RegistrarRequest,
 ) -> Result<DeskReply, DeskFault>
     ensures leaves { Leaves K.meaning keep.old keep.new
         (λ r left. K.meaning.left_shows left (registrar_step r request.now).register) }
@@ -252,27 +230,18 @@ fn answer_registrar<K: Keep>(
     ensures accounted { Accounts K.meaning keep.old keep.new (fault_of (reply_of result)) }
 {
     match request {
-        Request::Day { date } => Ok(DeskReply::Day(advance(keep, *date)?)),
-        Request::Enrol { name, token } => {
+        RegistrarRequest::Day { date } => Ok(DeskReply::Day(advance(keep, *date)?)),
+        RegistrarRequest::Enrol { name, token } => {
             let name = name.copy(alloc)?;
             let token = token.copy(alloc)?;
             Ok(DeskReply::Enrolled(enrol(keep, name, token)?))
         }
-        Request::Renew { name, token } => {
+        RegistrarRequest::Renew { name, token } => {
             let name = name.copy(alloc)?;
             let token = token.copy(alloc)?;
             Ok(DeskReply::Renewed(renew(keep, name, token)?))
         }
-        Request::Register => overview(keep),
-        Request::Lodge { .. }
-        | Request::Withdraw { .. }
-        | Request::Filings
-        | Request::File { .. }
-        | Request::Published
-        | Request::Snapshot { .. }
-        | Request::Chains { .. }
-        | Request::Evidence { .. }
-        | Request::Entities { .. } => Err(DeskFault::Refused(Refusal::NotAgent)),
+        RegistrarRequest::Register => overview(keep),
     }
 }
 
@@ -313,13 +282,21 @@ pub fn answer_naming<K: Keep>(
     ensures up { UnlessReplyFailed result.reply (K.meaning.is_sound keep.new
         → K.meaning.is_clean keep.new) }
 {
-    match keep.who(token) {
-        Err(fault) => named(None, Err(DeskFault::Failed(fault))),
-        Ok(None) => named(None, Err(DeskFault::Refused(Refusal::NoAgent))),
-        Ok(Some(Caller::Registrar)) => named(None, answer_registrar(alloc, keep, request)),
-        Ok(Some(Caller::Agent(name))) => {
+    match (keep.who(token), request) {
+        (Err(fault), _) => named(None, Err(DeskFault::Failed(fault))),
+        (Ok(None), _) => named(None, Err(DeskFault::Refused(Refusal::NoAgent))),
+        (Ok(Some(Caller::Registrar)), Request::Registrar(request)) => {
+            named(None, answer_registrar(alloc, keep, request))
+        }
+        (Ok(Some(Caller::Registrar)), Request::Agent(_)) => {
+            named(None, Err(DeskFault::Refused(Refusal::NotAgent)))
+        }
+        (Ok(Some(Caller::Agent(name))), Request::Agent(request)) => {
             let made = answer_agent(alloc, keep, &name, request);
             named(Some(name), made)
+        }
+        (Ok(Some(Caller::Agent(name))), Request::Registrar(_)) => {
+            named(Some(name), Err(DeskFault::Refused(Refusal::NotRegistrar)))
         }
     }
 }

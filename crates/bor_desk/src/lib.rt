@@ -6,10 +6,12 @@
 //! ```
 //! let mut keep = ListKeep::new(alloc, registrar.copy(alloc)?, day);
 //! let token = alder.copy(alloc)?;
-//! let reply = answer(alloc, &mut keep, &registrar, &Request::Enrol { name, token });
+//! let enrol = Request::Registrar(RegistrarRequest::Enrol { name, token });
+//! let reply = answer(alloc, &mut keep, &registrar, &enrol);
 //! assert!(rt; matches!(&reply, DeskReply::Enrolled(_)));
 //!
-//! let reply = answer(alloc, &mut keep, &alder, &Request::Published);
+//! let published = Request::Agent(AgentRequest::Published);
+//! let reply = answer(alloc, &mut keep, &alder, &published);
 //! assert!(rt; matches!(&reply, DeskReply::Published(outwards) if outwards.as_slice().is_empty()));
 //! ```
 //!
@@ -40,5 +42,5 @@ pub use evidence::{EntityEvidence, LinkEvidence, PersonEvidence, RecordEvidence,
 pub use refusal::Refusal;
 pub use reply::{Answered, DeskReply};
 pub use report::report_text;
-pub use request::Request;
+pub use request::{AgentRequest, RegistrarRequest, Request};
 pub use text::{Text, settled_word};

@@ -4,10 +4,18 @@ use bods_read::Identifier;
 use bor_chains::Node;
 use bor_terms::{AgentName, Day, Ident, Listed, LodgeKey, Token};
 
-/// A request. The registrar's are `Day`, `Enrol`, `Renew` and `Register`, and all others are the
-/// agents'.
+/// A request. Only an agent may ask an agent's, and only the registrar the registrar's.
 #[derive(Drop)]
 pub enum Request {
+    /// An agent's.
+    Agent(AgentRequest),
+    /// The registrar's.
+    Registrar(RegistrarRequest),
+}
+
+/// A request of an agent.
+#[derive(Drop)]
+pub enum AgentRequest {
     /// Lodges a file under a key, due on a day.
     Lodge {
         key: LodgeKey,
@@ -47,20 +55,17 @@ pub enum Request {
         identifier: Identifier,
         date: Option<Day>,
     },
+}
+
+/// A request of the registrar.
+#[derive(Drop)]
+pub enum RegistrarRequest {
     /// Moves the register's day.
-    Day {
-        date: Day,
-    },
+    Day { date: Day },
     /// Enrols an agent.
-    Enrol {
-        name: AgentName,
-        token: Token,
-    },
+    Enrol { name: AgentName, token: Token },
     /// Gives an agent another token.
-    Renew {
-        name: AgentName,
-        token: Token,
-    },
+    Renew { name: AgentName, token: Token },
     /// Shows the register's day, and its agents with how much each has published.
     Register,
 }

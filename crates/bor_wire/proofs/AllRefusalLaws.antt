@@ -30,7 +30,11 @@ use Rattle.bor_desk.specs.declared.refusal.Refusal.TheVariants as refuse
 use Rattle.bor_desk.specs.declared.reply.DeskReply.{DeskReply}
 use Rattle.bor_desk.specs.declared.reply.DeskReply.TheVariants as tell
 use Rattle.bor_desk.specs.declared.request.Request.{Request}
-use Rattle.bor_desk.specs.declared.request.Request.TheVariants as ask
+use Rattle.bor_desk.specs.declared.request.Request.TheVariants as of
+use Rattle.bor_desk.specs.declared.request.AgentRequest.{AgentRequest}
+use Rattle.bor_desk.specs.declared.request.AgentRequest.TheVariants as ask
+use Rattle.bor_desk.specs.declared.request.RegistrarRequest.{RegistrarRequest}
+use Rattle.bor_desk.specs.declared.request.RegistrarRequest.TheVariants as office
 use Rattle.bor_desk.specs.Operations.Sight.{Sight, sight_of}
 use Rattle.bor_desk.specs.Operations.Lodging.{told_of, told_added, told_settled, settled_reading, filing_of, lodging_at}
 use Rattle.bor_desk.specs.Operations.Registrar.{renewal}
@@ -46,7 +50,7 @@ use Rattle.bor_wire.specs.Spelling.Spell.{asked_behind, spelling}
 use Rattle.bor_wire.specs.Rendering.Replies.{Said, refused, answered, status_of}
 use Rattle.bor_wire.specs.Rendering.Statuses.{desk_status}
 use Rattle.bor_wire.specs.Inputs.{IsSaid}
-use Rattle.bor_wire.specs.AllRefusals.{IsFirstRefusal, TheFirstRefusalIsSaid, is_another, is_registrars, register_refusals, lines_of_agent, lines_of_registrar, lines_of_lodging, lines_of_withdrawal, lines_of_statements, lines_of_places, faults_in, refusal_at_place}
+use Rattle.bor_wire.specs.AllRefusals.{IsFirstRefusal, TheFirstRefusalIsSaid, is_another, register_refusals, lines_of_agent, lines_of_registrar, lines_of_lodging, lines_of_withdrawal, lines_of_statements, lines_of_places, faults_in, refusal_at_place}
 
 -- the answer is the first of the refusals; where there is none, each reply that tells it has a status below 400
 abbrev Fits : List Refusal → Answer → Type 0
@@ -132,7 +136,7 @@ evidence_fits : (seen : List Row) (entity : Node) (day : ℤ) (is_entity : Bool)
 evidence_fits seen entity day true = λ reply told. subst (λ x. desk_status x < 400) (sym told.2) (omega arith)
 evidence_fits seen entity day false = refl
 
-agent_fits : (s : Sight) (request : Request) → Fits (line (is_registrars request) refuse.NotRegistrar ++ lines_of_agent s request) (agent_answer s request)
+agent_fits : (s : Sight) (request : AgentRequest) → Fits (lines_of_agent s request) (agent_answer s request)
 agent_fits s (ask.Lodge key due file) = lodging_fits s key due file (filing_keyed key s.own)
 agent_fits s (ask.Withdraw key) = withdrawal_fits s (filing_keyed key s.own)
 agent_fits s ask.Filings = below _ (omega arith)
@@ -147,19 +151,15 @@ agent_fits s (ask.Evidence entity date) =
     let day : ℤ = unwrap_or date s.day in
     evidence_fits s.seen entity day (is_entity_info (info_of (shown_of day s.seen) entity))
 agent_fits s (ask.Entities identifier date) = λ reply told. subst (λ x. desk_status x < 400) (sym told.2) (omega arith)
-agent_fits s (ask.Day date) = refl
-agent_fits s (ask.Enrol name token) = refl
-agent_fits s (ask.Renew name token) = refl
-agent_fits s ask.Register = refl
 
 -- ---- the registrar
 
-day_fits : (r : Register) (date : ℤ) (back : Bool) → int_lt date r.day ≡ back → Fits (line (int_lt date r.day) refuse.DayBack) (registrar_step r (ask.Day date)).answer
+day_fits : (r : Register) (date : ℤ) (back : Bool) → int_lt date r.day ≡ back → Fits (line (int_lt date r.day) refuse.DayBack) (registrar_step r (office.Day date)).answer
 day_fits r date true e = rw e refl
 day_fits r date false e = rw e (below (tell.Day date) (omega arith))
 
 enrolment_fits : (r : Register) (name token : List ℕ) (named taken : Bool) → is_enrolled name r.members ≡ named → is_taken token r ≡ taken →
-    Fits (line (is_enrolled name r.members) refuse.NameTaken ++ (line (is_taken token r) refuse.TokenTaken ++ [])) (registrar_step r (ask.Enrol name token)).answer
+    Fits (line (is_enrolled name r.members) refuse.NameTaken ++ (line (is_taken token r) refuse.TokenTaken ++ [])) (registrar_step r (office.Enrol name token)).answer
 enrolment_fits r name token true taken e f = rw e refl
 enrolment_fits r name token false true e f = rw (e, f) refl
 enrolment_fits r name token false false e f = rw (e, f) (below (tell.Enrolled name) (omega arith))
@@ -176,29 +176,22 @@ renewal_fits r name token (Some (Agent owner)) = by_name (is_same owner name) re
     by_name false e = rw e refl
 
 named_fits : (r : Register) (name token : List ℕ) (named : Bool) → is_enrolled name r.members ≡ named →
-    Fits (line (not (is_enrolled name r.members)) refuse.NoSuchAgent ++ (line (is_another name (caller_of token r)) refuse.TokenTaken ++ [])) (registrar_step r (ask.Renew name token)).answer
+    Fits (line (not (is_enrolled name r.members)) refuse.NoSuchAgent ++ (line (is_another name (caller_of token r)) refuse.TokenTaken ++ [])) (registrar_step r (office.Renew name token)).answer
 named_fits r name token true e = rw e (renewal_fits r name token (caller_of token r))
 named_fits r name token false e = rw e refl
 
-registrar_fits : (r : Register) (request : Request) → Fits (line (not (is_registrars request)) refuse.NotAgent ++ lines_of_registrar r request) (registrar_step r request).answer
-registrar_fits r (ask.Day date) = day_fits r date (int_lt date r.day) refl
-registrar_fits r (ask.Enrol name token) = enrolment_fits r name token (is_enrolled name r.members) (is_taken token r) refl refl
-registrar_fits r (ask.Renew name token) = named_fits r name token (is_enrolled name r.members) refl
-registrar_fits r ask.Register = below _ (omega arith)
-registrar_fits r (ask.Lodge key due file) = refl
-registrar_fits r (ask.Withdraw key) = refl
-registrar_fits r ask.Filings = refl
-registrar_fits r (ask.File key) = refl
-registrar_fits r ask.Published = refl
-registrar_fits r (ask.Snapshot agent declaration date) = refl
-registrar_fits r (ask.Chains entity date) = refl
-registrar_fits r (ask.Evidence entity date) = refl
-registrar_fits r (ask.Entities identifier date) = refl
+registrar_fits : (r : Register) (request : RegistrarRequest) → Fits (lines_of_registrar r request) (registrar_step r request).answer
+registrar_fits r (office.Day date) = day_fits r date (int_lt date r.day) refl
+registrar_fits r (office.Enrol name token) = enrolment_fits r name token (is_enrolled name r.members) (is_taken token r) refl refl
+registrar_fits r (office.Renew name token) = named_fits r name token (is_enrolled name r.members) refl
+registrar_fits r office.Register = below _ (omega arith)
 
 caller_fits : (r : Register) (caller : Option Caller) (request : Request) → Fits (register_refusals r caller request) (step r caller request).answer
 caller_fits r None request = refl
-caller_fits r (Some Registrar) request = registrar_fits r request
-caller_fits r (Some (Agent name)) request = agent_fits (sight_of name r) request
+caller_fits r (Some Registrar) (of.Registrar request) = registrar_fits r request
+caller_fits r (Some Registrar) (of.Agent request) = refl
+caller_fits r (Some (Agent name)) (of.Agent request) = agent_fits (sight_of name r) request
+caller_fits r (Some (Agent name)) (of.Registrar request) = refl
 
 -- ---- what is said
 

@@ -4,7 +4,8 @@ use Rattle.bor_records.specs.Promises.{Meaning}
 use Rattle.bor_register.specs.declared.fault.StoreFault.{StoreFault}
 use Rattle.bor_register.specs.Register.{Register}
 use Rattle.bor_desk.specs.Runs.{Asked}
-use Rattle.bor_desk.specs.declared.request.Request.TheVariants.{Filings}
+use Rattle.bor_desk.specs.declared.request.Request.TheVariants as of
+use Rattle.bor_desk.specs.declared.request.AgentRequest.TheVariants.{Filings}
 use Rattle.bor_http.specs.declared.incoming.fault.Refusal.TheVariants.{NoPath}
 use Rattle.bor_wire.specs.Spelling.Spell.{Spelled, Spells}
 use Rattle.bor_wire.specs.Rendering.Replies.{refused, bytes_of}
@@ -41,7 +42,7 @@ their_replies = refl
 -- ---- what of a run is asked
 
 asking : Asked
-asking = record { token = codes "alder-token-000001"; request = Filings }
+asking = record { token = codes "alder-token-000001"; request = of.Agent Filings }
 
 inputs : List Spelled
 inputs = Err NoPath ∷ Ok asking ∷ []

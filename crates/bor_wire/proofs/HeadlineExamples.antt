@@ -11,7 +11,9 @@ use Rattle.bor_register.proofs.Examples.{today, tomorrow}
 use Rattle.bods_read.specs.declared.details.Identifier.{Identifier}
 use Rattle.bor_records.specs.Links.Answers.{Identified}
 use Rattle.bor_records.specs.Links.Rows.{shown_of}
-use Rattle.bor_desk.specs.declared.request.Request.TheVariants as ask
+use Rattle.bor_desk.specs.declared.request.Request.TheVariants as of
+use Rattle.bor_desk.specs.declared.request.AgentRequest.TheVariants as ask
+use Rattle.bor_desk.specs.declared.request.RegistrarRequest.TheVariants as office
 use Rattle.bor_desk.specs.declared.reply.DeskReply.{DeskReply}
 use Rattle.bor_desk.specs.declared.reply.DeskReply.TheVariants as tell
 use Rattle.bor_desk.specs.Evidence.{AreRecords}
@@ -84,7 +86,7 @@ abbrev for_entities : Spelled
 for_entities = birch (ask.Entities number None)
 
 abbrev spelled_first : List Spelled
-spelled_first = registrar (ask.Enrol (codes "alder") (codes "alder-token-000001")) ∷ registrar (ask.Enrol (codes "birch") (codes "birch-token-000001")) ∷ []
+spelled_first = registrar (office.Enrol (codes "alder") (codes "alder-token-000001")) ∷ registrar (office.Enrol (codes "birch") (codes "birch-token-000001")) ∷ []
 
 abbrev spelled_last : List Spelled
 spelled_last = birch ask.Published ∷ for_chains ∷ []
@@ -110,13 +112,13 @@ abbrev body_of : List ℕ → List FieldText
 body_of length = (codes "Content-Length", length) ∷ []
 
 -- each spells its request
-first : Spells enrols_alder (registrar (ask.Enrol (codes "alder") (codes "alder-token-000001")))
+first : Spells enrols_alder (registrar (office.Enrol (codes "alder") (codes "alder-token-000001")))
 unfolding speller writer enrols_alder
 first =
     let p : Parts = parts (codes "POST") (codes "/agents?name=alder") (codes "registrar-token-0001") (body_of (codes "18")) in
     (Some p, begins_with enrols_alder p (written p) refl refl refl refl refl, refl)
 
-second : Spells enrols_birch (registrar (ask.Enrol (codes "birch") (codes "birch-token-000001")))
+second : Spells enrols_birch (registrar (office.Enrol (codes "birch") (codes "birch-token-000001")))
 unfolding speller writer enrols_birch
 second =
     let p : Parts = parts (codes "POST") (codes "/agents?name=birch") (codes "registrar-token-0001") (body_of (codes "18")) in
@@ -202,7 +204,7 @@ entities_told = refl
 
 -- the answer to the last request, behind these
 abbrev last_answer : List Spelled → Answer
-last_answer front = (exchange (register_left start front) (record { token = codes "birch-token-000001"; request = ask.Entities number None })).answer
+last_answer front = (exchange (register_left start front) (record { token = codes "birch-token-000001"; request = of.Agent (ask.Entities number None) })).answer
 
 -- all replies of a list, where birch sees nothing at the end
 are_replies : (front : List Spelled) (sent : List (List ℕ)) → sent_by own [] start front ≡ sent → has_no_report start front ≡ true → last_answer front ≡ entities number today []

@@ -21,7 +21,11 @@ use Rattle.bor_register.proofs.Examples.{two_agents, today, tomorrow}
 use Rattle.bor_desk.specs.Operations.Legality.{IsLegal, AreLegal}
 use Rattle.bor_desk.specs.declared.refusal.Refusal.TheVariants as refuse
 use Rattle.bor_desk.specs.declared.request.Request.{Request}
-use Rattle.bor_desk.specs.declared.request.Request.TheVariants as ask
+use Rattle.bor_desk.specs.declared.request.Request.TheVariants as of
+use Rattle.bor_desk.specs.declared.request.AgentRequest.{AgentRequest}
+use Rattle.bor_desk.specs.declared.request.AgentRequest.TheVariants as ask
+use Rattle.bor_desk.specs.declared.request.RegistrarRequest.{RegistrarRequest}
+use Rattle.bor_desk.specs.declared.request.RegistrarRequest.TheVariants as office
 use Rattle.bor_desk.specs.declared.reply.DeskReply.{DeskReply}
 use Rattle.bor_desk.specs.declared.reply.DeskReply.TheVariants as tell
 use Rattle.bor_desk.specs.Refusals.{refusal_name}
@@ -48,17 +52,17 @@ start = two_agents today
 abbrev by : List ℕ → Request → Spelled
 by token request = Ok (record { token = token; request = request })
 
-abbrev pub alder : Request → Spelled
-alder request = by (codes "alder-token-000001") request
+abbrev pub alder : AgentRequest → Spelled
+alder request = by (codes "alder-token-000001") (of.Agent request)
 
-abbrev pub birch : Request → Spelled
-birch request = by (codes "birch-token-000001") request
+abbrev pub birch : AgentRequest → Spelled
+birch request = by (codes "birch-token-000001") (of.Agent request)
 
-abbrev cedar : Request → Spelled
-cedar request = by (codes "cedar-token-000001") request
+abbrev cedar : AgentRequest → Spelled
+cedar request = by (codes "cedar-token-000001") (of.Agent request)
 
-abbrev pub registrar : Request → Spelled
-registrar request = by (codes "registrar-token-0001") request
+abbrev pub registrar : RegistrarRequest → Spelled
+registrar request = by (codes "registrar-token-0001") (of.Registrar request)
 
 -- the entity e1
 abbrev file : List ℕ
@@ -73,7 +77,7 @@ inputs =
     ∷ birch (ask.Lodge (codes "f1") today file)
     ∷ alder ask.Filings
     ∷ alder ask.Published
-    ∷ registrar (ask.Enrol (codes "cedar") (codes "cedar-token-000001"))
+    ∷ registrar (office.Enrol (codes "cedar") (codes "cedar-token-000001"))
     ∷ cedar ask.Filings
     ∷ []
 
@@ -142,11 +146,11 @@ to_nobody = refl
 abbrev asked_by : List ℕ → List Request
 asked_by name = map (λ (o : Occasion). o.request) (history name start (asked_in inputs))
 
-asked_by_alder : asked_by (codes "alder") ≡ ask.Published ∷ ask.Filings ∷ ask.Published ∷ []
+asked_by_alder : asked_by (codes "alder") ≡ map of.Agent (ask.Published ∷ ask.Filings ∷ ask.Published ∷ [])
 unfolding calendar reader
 asked_by_alder = refl
 
-asked_by_cedar : asked_by (codes "cedar") ≡ ask.Filings ∷ []
+asked_by_cedar : asked_by (codes "cedar") ≡ of.Agent ask.Filings ∷ []
 unfolding calendar reader
 asked_by_cedar = refl
 
@@ -183,7 +187,7 @@ lodging = birch (ask.Lodge (codes "f1") tomorrow file)
 -- it is a draft, as it was; the next day it is published; and the key is refused to another file
 abbrev again : List Spelled
 again =
-    lodging ∷ lodging ∷ registrar (ask.Day tomorrow) ∷ lodging ∷ birch (ask.Lodge (codes "f1") tomorrow (codes "[]")) ∷ []
+    lodging ∷ lodging ∷ registrar (office.Day tomorrow) ∷ lodging ∷ birch (ask.Lodge (codes "f1") tomorrow (codes "[]")) ∷ []
 
 to_birch_again : received (codes "birch") start again (sent_by own [] start again)
     ≡ codes "HTTP/1.1 201 Created\r\nContent-Type: application/json\r\nContent-Length: 47\r\nConnection: close\r\n\r\n{\"due\":\"2024-02-02\",\"filing\":1,\"state\":\"draft\"}"
@@ -197,7 +201,7 @@ to_birch_again = refl
 -- ---- a token that is renewed
 
 abbrev renewal : Spelled
-renewal = registrar (ask.Renew (codes "birch") (codes "birch-token-000002"))
+renewal = registrar (office.Renew (codes "birch") (codes "birch-token-000002"))
 
 -- the renewal is sent again; birch asks by its old token, and then by the new one; a draft isn't counted
 abbrev renewed : List Spelled
@@ -206,10 +210,10 @@ renewed =
     ∷ renewal
     ∷ renewal
     ∷ lodging
-    ∷ by (codes "birch-token-000002") (ask.Lodge (codes "f1") tomorrow file)
-    ∷ registrar ask.Register
-    ∷ registrar (ask.Day tomorrow)
-    ∷ registrar ask.Register
+    ∷ by (codes "birch-token-000002") (of.Agent (ask.Lodge (codes "f1") tomorrow file))
+    ∷ registrar office.Register
+    ∷ registrar (office.Day tomorrow)
+    ∷ registrar office.Register
     ∷ []
 
 sent_renewed : sent_by own [] start renewed
@@ -236,20 +240,20 @@ to_birch_renewed = refl
 -- ---- the order of refusals
 
 -- a file with no statements, due before the register's day: both refusals hold, and the first is said
-two_refusals : register_refusals (two_agents tomorrow) (Some (Agent (codes "alder"))) (ask.Lodge (codes "f1") today (codes "[]")) ≡ refuse.DuePast ∷ refuse.Read NoStatements ∷ []
+two_refusals : register_refusals (two_agents tomorrow) (Some (Agent (codes "alder"))) (of.Agent (ask.Lodge (codes "f1") today (codes "[]"))) ≡ refuse.DuePast ∷ refuse.Read NoStatements ∷ []
 unfolding replier
 two_refusals = refl
 
 -- an agent asks for what is the registrar's, and the day goes back: the second isn't looked at for an agent
-one_refusal : register_refusals (two_agents tomorrow) (Some (Agent (codes "alder"))) (ask.Day today) ≡ refuse.NotRegistrar ∷ []
+one_refusal : register_refusals (two_agents tomorrow) (Some (Agent (codes "alder"))) (of.Registrar (office.Day today)) ≡ refuse.NotRegistrar ∷ []
 one_refusal = refl
 
 -- a renewal for nobody, by the registrar's own token: both hold
-no_renewal : register_refusals start (Some Registrar) (ask.Renew (codes "cedar") (codes "registrar-token-0001")) ≡ refuse.NoSuchAgent ∷ refuse.TokenTaken ∷ []
+no_renewal : register_refusals start (Some Registrar) (of.Registrar (office.Renew (codes "cedar") (codes "registrar-token-0001"))) ≡ refuse.NoSuchAgent ∷ refuse.TokenTaken ∷ []
 no_renewal = refl
 
 -- an agent's own token is no other's
-own_token : register_refusals start (Some Registrar) (ask.Renew (codes "birch") (codes "birch-token-000001")) ≡ []
+own_token : register_refusals start (Some Registrar) (of.Registrar (office.Renew (codes "birch") (codes "birch-token-000001"))) ≡ []
 own_token = refl
 
 -- ---- the replies are those of the run
@@ -383,7 +387,7 @@ order_of_acceptance = refuted with_place (drafted lodges) lodges refl refl refl
 -- a 409 where any agent has lodged something under the key
 abbrev is_key_taken : Request → List Member → Bool
 is_key_taken request [] = false
-is_key_taken (ask.Lodge key due file) (m ∷ ms) = is_some (filing_keyed key m.filings) || is_key_taken (ask.Lodge key due file) ms
+is_key_taken (of.Agent (ask.Lodge key due file)) (m ∷ ms) = is_some (filing_keyed key m.filings) || is_key_taken (of.Agent (ask.Lodge key due file)) ms
 is_key_taken request (m ∷ ms) = false
 
 abbrev with_one_key : List Asked → Register → Asked → List ℕ
@@ -395,7 +399,7 @@ key_of_another = refuted with_one_key (drafted lodges) lodges refl refl refl
 
 -- a list of filings as whoever asked for one last was told it
 abbrev is_list : Request → Bool
-is_list ask.Filings = true
+is_list (of.Agent ask.Filings) = true
 is_list request = false
 
 abbrev last_asker : Asked → List Asked → Asked

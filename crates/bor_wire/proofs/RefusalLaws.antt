@@ -4,7 +4,8 @@ use Rattle.std.specs.Prelude.{if◌then◌else◌}
 use Rattle.bor_register.specs.declared.caller.Caller.{Caller}
 use Rattle.bor_register.specs.Register.{Register, caller_of}
 use Rattle.bor_desk.specs.declared.request.Request.{Request}
-use Rattle.bor_desk.specs.declared.request.Request.TheVariants as ask
+use Rattle.bor_desk.specs.declared.request.Request.TheVariants as of
+use Rattle.bor_desk.specs.declared.request.AgentRequest.TheVariants as ask
 use Rattle.bor_desk.specs.declared.reply.DeskReply.{DeskReply}
 use Rattle.bor_desk.specs.declared.reply.DeskReply.TheVariants as tell
 use Rattle.bor_desk.specs.Step.{Answer, exactly, report, evidence, entities, step}
@@ -51,7 +52,7 @@ refused_answer (entities identifier day seen) reply told h = refl
 -- also where a snapshot's reply isn't known to be told
 pub refused_leaves : (r : Register) (caller : Option Caller) (request : Request) (reply : DeskReply) → (IsOrderedFor request r → IsTold (step r caller request).answer reply) → 400 ≤ desk_status reply
     → (step r caller request).register ≡ r
-refused_leaves r caller (ask.Snapshot agent declaration date) reply told h = reads.by_request r caller (ask.Snapshot agent declaration date) refl
+refused_leaves r caller (of.Agent (ask.Snapshot agent declaration date)) reply told h = reads.by_request r caller (of.Agent (ask.Snapshot agent declaration date)) refl
 refused_leaves r caller request reply told h = refusal_leaves r caller request (refused_answer (step r caller request).answer reply (told tt) h)
 
 pub said_leaves : (r : Register) (s : Spelled) (said : Said) → IsSaid r s said → 400 ≤ status_of said → after r s ≡ r

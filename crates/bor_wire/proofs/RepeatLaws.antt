@@ -18,7 +18,9 @@ use Rattle.bor_desk.specs.declared.operations.fault.LodgeFault.TheVariants as lo
 use Rattle.bor_desk.specs.declared.operations.lodging.Lodged.{Lodged}
 use Rattle.bor_desk.specs.declared.refusal.Refusal.TheVariants.{KeyReused}
 use Rattle.bor_desk.specs.declared.request.Request.{Request}
-use Rattle.bor_desk.specs.declared.request.Request.TheVariants as ask
+use Rattle.bor_desk.specs.declared.request.Request.TheVariants as of
+use Rattle.bor_desk.specs.declared.request.AgentRequest.{AgentRequest}
+use Rattle.bor_desk.specs.declared.request.AgentRequest.TheVariants as ask
 use Rattle.bor_desk.specs.declared.reply.DeskReply.{DeskReply}
 use Rattle.bor_desk.specs.declared.reply.DeskReply.TheVariants as tell
 use Rattle.bor_desk.specs.Operations.Sight.{Sight, sight_of}
@@ -28,7 +30,7 @@ use Rattle.bor_desk.specs.Refusals.{of_lodging}
 use Rattle.bor_desk.specs.Laws.{is_agent}
 use Rattle.bor_desk.specs.Outcomes.{IsTold}
 use Rattle.bor_desk.specs.Runs.{Asked}
-use Rattle.bor_desk.specs.Step.{Answer, exactly, told, own_after, agent_answer, agent_step, step}
+use Rattle.bor_desk.specs.Step.{Answer, exactly, told, own_after, agent_step, step}
 use Rattle.bor_desk.proofs.Isolation.{own_filings}
 use Rattle.bor_desk.proofs.OnOperations.Lodgings.{addition_is}
 use Rattle.bor_desk.proofs.Unchanged.{left_by_agent}
@@ -72,8 +74,8 @@ keyed-withdrawn n number due key file (x ∷ xs) f h is = by_tests (is_same x.ke
     by_tests : (b c : Bool) → is_same x.key key ≡ b → (x.number == n) ≡ c → (filing_keyed key xs ≡ Some f → IsOf number due file f → Keyed number due key file (with_withdrawn n xs)) → Keyed number due key file (if c then as_withdrawn x ∷ xs else x ∷ with_withdrawn n xs)
     by_tests true true same that rest =
         let it : x ≡ f = let at = rw same at h in cc in
-        let of : IsOf number due file x = subst (IsOf number due file) (sym it) is in
-        record { filing = as_withdrawn x; found = rw same refl; is = record { number_is = of.number_is; due_is = of.due_is; file_is = of.file_is } }
+        let its : IsOf number due file x = subst (IsOf number due file) (sym it) is in
+        record { filing = as_withdrawn x; found = rw same refl; is = record { number_is = its.number_is; due_is = its.due_is; file_is = its.file_is } }
     by_tests true false same other rest =
         let it : x ≡ f = let at = rw same at h in cc in
         record { filing = x; found = rw same refl; is = subst (IsOf number due file) (sym it) is }
@@ -104,20 +106,10 @@ keyed-withdrawal s number due key file (Some f) k = by_tests f.withdrawn (int_le
     by_tests false false true = k
     by_tests false false false = keyed-withdrawn f.number number due key file s.own k.filing k.found k.is
 
-keyed-after : (s : Sight) (request : Request) (number : ℕ) (due : ℤ) (key file : List ℕ) → Keyed number due key file s.own → Keyed number due key file (own_after s request)
+keyed-after : (s : Sight) (request : AgentRequest) (number : ℕ) (due : ℤ) (key file : List ℕ) → Keyed number due key file s.own → Keyed number due key file (own_after s request)
 keyed-after s (ask.Lodge other date bytes) number due key file k = keyed-lodged s number due key file other date bytes (filing_keyed other s.own) k
 keyed-after s (ask.Withdraw other) number due key file k = keyed-withdrawal s number due key file (filing_keyed other s.own) k
-keyed-after s ask.Filings number due key file k = k
-keyed-after s (ask.File other) number due key file k = k
-keyed-after s ask.Published number due key file k = k
-keyed-after s (ask.Snapshot agent declaration date) number due key file k = k
-keyed-after s (ask.Chains entity date) number due key file k = k
-keyed-after s (ask.Evidence entity date) number due key file k = k
-keyed-after s (ask.Entities identifier date) number due key file k = k
-keyed-after s (ask.Day date) number due key file k = k
-keyed-after s (ask.Enrol name token) number due key file k = k
-keyed-after s (ask.Renew name token) number due key file k = k
-keyed-after s ask.Register number due key file k = k
+keyed-after s request number due key file k = k
 
 -- ---- the filing stands
 
@@ -126,8 +118,9 @@ abbrev Stands : List ℕ → ℕ → ℤ → List ℕ → List ℕ → Register 
 Stands name number due key file q = Keyed number due key file (filings_of name q.members)
 
 stands-own : (name : List ℕ) (number : ℕ) (due : ℤ) (key file : List ℕ) (q : Register) (request : Request) → is_enrolled name q.members ≡ true → Stands name number due key file q
-    → Stands name number due key file (agent_step q name request).register
-stands-own name number due key file q request on h =
+    → Stands name number due key file (step q (Some (Agent name)) request).register
+stands-own name number due key file q (of.Registrar request) on h = h
+stands-own name number due key file q (of.Agent request) on h =
     subst (Keyed number due key file) (sym (filings_written name (own_after (sight_of name q) request) q.members on)) (keyed-after (sight_of name q) request number due key file h)
 
 stands-others : (name : List ℕ) (number : ℕ) (due : ℤ) (key file : List ℕ) (q : Register) (caller : Option Caller) (request : Request) → is_agent name caller ≡ false → Stands name number due key file q
@@ -135,10 +128,10 @@ stands-others : (name : List ℕ) (number : ℕ) (due : ℤ) (key file : List �
 stands-others name number due key file q caller request other h = subst (Keyed number due key file) (sym (own_filings.by_others q caller request name other)) h
 
 stands-agent : (name : List ℕ) (number : ℕ) (due : ℤ) (key file : List ℕ) (q : Register) (asking : List ℕ) (request : Request) (b : Bool) → is_same asking name ≡ b → is_enrolled asking q.members ≡ true
-    → Stands name number due key file q → Stands name number due key file (agent_step q asking request).register
+    → Stands name number due key file q → Stands name number due key file (step q (Some (Agent asking)) request).register
 stands-agent name number due key file q asking request true same on h =
     let is : asking ≡ name = same_is asking name same in
-    subst (λ n. Stands name number due key file (agent_step q n request).register) (sym is) (stands-own name number due key file q request (ap (λ n. is_enrolled n q.members) (sym is) ∙ on) h)
+    subst (λ n. Stands name number due key file (step q (Some (Agent n)) request).register) (sym is) (stands-own name number due key file q request (ap (λ n. is_enrolled n q.members) (sym is) ∙ on) h)
 stands-agent name number due key file q asking request false other on h = stands-others name number due key file q (Some (Agent asking)) request other h
 
 stands-step : (name : List ℕ) (number : ℕ) (due : ℤ) (key file : List ℕ) (q : Register) (token : List ℕ) (caller : Option Caller) (request : Request) → caller_of token q ≡ caller → Stands name number due key file q
@@ -219,10 +212,10 @@ filed : (r : Register) (asked : Asked) (name key : List ℕ) (due : ℤ) (file :
 filed r asked name key due file told is h =
     let reply : h.said.0 ≡ tell.Lodged told = let e = h.said.2 in cc in
     let tells : IsTold (step r (caller_of asked.token r) asked.request).answer (tell.Lodged told) = subst (IsTold (step r (caller_of asked.token r) asked.request).answer) reply h.said.1 in
-    let by_name : IsTold (agent_step r name asked.request).answer (tell.Lodged told) = subst (λ c. IsTold (step r c asked.request).answer (tell.Lodged told)) is tells in
+    let by_name : IsTold (step r (Some (Agent name)) asked.request).answer (tell.Lodged told) = subst (λ c. IsTold (step r c asked.request).answer (tell.Lodged told)) is tells in
     subst (λ c. IsFiled name due key file told (step r c asked.request).register) (sym is)
-    (subst (λ request. IsFiled name due key file told (agent_step r name request).register) (sym h.request)
-    (filed_by r asked.token name key due file told is (subst (λ request. IsTold (agent_step r name request).answer (tell.Lodged told)) h.request by_name)))
+    (subst (λ request. IsFiled name due key file told (step r (Some (Agent name)) request).register) (sym h.request)
+    (filed_by r asked.token name key due file told is (subst (λ request. IsTold (step r (Some (Agent name)) request).answer (tell.Lodged told)) h.request by_name)))
 
 -- ---- the key again
 
@@ -230,18 +223,18 @@ filed r asked name key due file told is h =
 own_there : (q : Register) (name key : List ℕ) (date : ℤ) (other : List ℕ) (f : AcceptedFiling) → filing_keyed key (filings_of name q.members) ≡ Some f → (agent_step q name (ask.Lodge key date other)).register ≡ q
 own_there q name key date other f found = left_by_agent q name (ask.Lodge key date other) (ap (own_lodged_at (sight_of name q) key date other) found)
 
-left_there : (q : Register) (asked : Asked) (name key : List ℕ) (date : ℤ) (other : List ℕ) (f : AcceptedFiling) → caller_of asked.token q ≡ Some (Agent name) → asked.request ≡ ask.Lodge key date other
+left_there : (q : Register) (asked : Asked) (name key : List ℕ) (date : ℤ) (other : List ℕ) (f : AcceptedFiling) → caller_of asked.token q ≡ Some (Agent name) → asked.request ≡ of.Agent (ask.Lodge key date other)
     → filing_keyed key (filings_of name q.members) ≡ Some f → after q (Ok asked) ≡ q
 left_there q asked name key date other f caller request found =
-    ap (λ c. (step q c asked.request).register) caller ∙ ap (λ x. (agent_step q name x).register) request ∙ own_there q name key date other f found
+    ap (λ c. (step q c asked.request).register) caller ∙ ap (λ x. (step q (Some (Agent name)) x).register) request ∙ own_there q name key date other f found
 
 -- what is said to it is what `repeated` gives
-said_there : (q : Register) (asked : Asked) (name key : List ℕ) (date : ℤ) (other : List ℕ) (f : AcceptedFiling) (wanted : DeskReply) → caller_of asked.token q ≡ Some (Agent name) → asked.request ≡ ask.Lodge key date other
+said_there : (q : Register) (asked : Asked) (name key : List ℕ) (date : ℤ) (other : List ℕ) (f : AcceptedFiling) (wanted : DeskReply) → caller_of asked.token q ≡ Some (Agent name) → asked.request ≡ of.Agent (ask.Lodge key date other)
     → filing_keyed key (filings_of name q.members) ≡ Some f → told tell.Lodged of_lodging (repeated q.day date other f) ≡ exactly wanted → (said : Said) → IsSaid q (Ok asked) said → said ≡ answered wanted
 said_there q asked name key date other f wanted caller request found is said h =
     let by : Answer = (step q (caller_of asked.token q) asked.request).answer in
     let answer : by ≡ exactly wanted =
-    ap (λ c. (step q c asked.request).answer) caller ∙ ap (agent_answer (sight_of name q)) request
+    ap (λ c. (step q c asked.request).answer) caller ∙ ap (λ x. (step q (Some (Agent name)) x).answer) request
     ∙ ap (λ at. told tell.Lodged of_lodging (lodging_at (sight_of name q) key date other at)) found ∙ is in
     let reply : h.0 ≡ wanted = subst (λ a. IsTold a h.0) answer h.1 in
     h.2 ∙ ap answered reply
@@ -268,7 +261,7 @@ told_again_is : (r : Register) (asked again : Asked) (key : List ℕ) (due : ℤ
 told_again_is r asked again key due file lodged between h same one =
     let q : Register = register_left (after r (Ok asked)) between in
     let name = one.agent in
-    let request : again.request ≡ ask.Lodge key due file = same ∙ h.request in
+    let request : again.request ≡ of.Agent (ask.Lodge key due file) = same ∙ h.request in
     let first = filed r asked name key due file lodged one.before h in
     let now : Stands name lodged.number due key file q = stands-left name lodged.number due key file (after r (Ok asked)) between first.stands in
     let f : AcceptedFiling = now.filing in
@@ -307,7 +300,7 @@ replied_again r input asked again key due file lodged between bytes spells too h
     }
 
 reused_again : (r : Register) (asked another : Asked) (key : List ℕ) (due date : ℤ) (file other : List ℕ) (lodged : Lodged) (between : List Spelled) → IsLodged r asked key due file lodged
-    → AreOneAgents r asked.token (register_left (after r (Ok asked)) between) another.token → another.request ≡ ask.Lodge key date other → (date ≢ due) ⊎ (other ≢ file)
+    → AreOneAgents r asked.token (register_left (after r (Ok asked)) between) another.token → another.request ≡ of.Agent (ask.Lodge key date other) → (date ≢ due) ⊎ (other ≢ file)
     → IsReused (register_left (after r (Ok asked)) between) another
 reused_again r asked another key due date file other lodged between h one request differs =
     let q : Register = register_left (after r (Ok asked)) between in

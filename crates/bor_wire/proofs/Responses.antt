@@ -5,7 +5,8 @@ use Rattle.bor_records.specs.Promises.{Leaves, Meaning}
 use Rattle.bor_register.specs.declared.caller.Caller.{Caller}
 use Rattle.bor_register.specs.Register.{Register, caller_of}
 use Rattle.bor_desk.specs.declared.request.Request.{Request}
-use Rattle.bor_desk.specs.declared.request.Request.TheVariants as ask
+use Rattle.bor_desk.specs.declared.request.Request.TheVariants as of
+use Rattle.bor_desk.specs.declared.request.AgentRequest.TheVariants as ask
 use Rattle.bor_desk.specs.declared.reply.DeskReply.{DeskReply}
 use Rattle.bor_desk.specs.Step.{step}
 use Rattle.bor_desk.specs.Outcomes.{IsTold, IsOrderedFor}
@@ -46,7 +47,7 @@ no_refusal asked why e = cc
 -- a long reply leaves the register, also where a snapshot's isn't known to be told
 pub long_leaves : (r : Register) (caller : Option Caller) (request : Request) (reply : DeskReply) → (IsOrderedFor request r → IsTold (step r caller request).answer reply) → is_long reply ≡ true
     → (step r caller request).register ≡ r
-long_leaves r caller (ask.Snapshot agent declaration date) reply told long = reads.by_request r caller (ask.Snapshot agent declaration date) refl
+long_leaves r caller (of.Agent (ask.Snapshot agent declaration date)) reply told long = reads.by_request r caller (of.Agent (ask.Snapshot agent declaration date)) refl
 long_leaves r caller request reply told long = reads.by_reply r caller request reply (told tt) long
 
 -- ---- what goes out of a reply

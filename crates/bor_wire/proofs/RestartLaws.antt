@@ -13,7 +13,7 @@ use Rattle.bor_desk.specs.Operations.Legality.{IsLegal}
 use Rattle.bor_desk.specs.Operations.Solo.{published_beside}
 use Rattle.bor_desk.specs.declared.request.Request.{Request}
 use Rattle.bor_desk.specs.Laws.{is_agent}
-use Rattle.bor_desk.specs.Step.{step, agent_step}
+use Rattle.bor_desk.specs.Step.{step}
 use Rattle.bor_desk.specs.Runs.{Occasion, occasion_then, request_by}
 use Rattle.bor_desk.proofs.Isolation.{exchange_alone, own_filings}
 use Rattle.bor_wire.specs.Spelling.Spell.{Spelled, Spells}
@@ -111,25 +111,25 @@ by_others name r next ss same goes = goes ∙ ap (λ own. filings_alone name own
 -- one exchange of an agent, and the rest
 ByAgent : Register → List ℕ → Request → List Spelled → List ℕ → Type 0
 ByAgent r asking request ss name =
-    Follow name (agent_step r asking request).register ss →
-    filings_of name (register_left (agent_step r asking request).register ss).members
-    ≡ filings_alone name (filings_of name r.members) (record { day = r.day; others = published_beside name r.day r.members; request = request } ∷ history_in name (agent_step r asking request).register ss)
+    Follow name (step r (Some (Agent asking)) request).register ss →
+    filings_of name (register_left (step r (Some (Agent asking)) request).register ss).members
+    ≡ filings_alone name (filings_of name r.members) (record { day = r.day; others = published_beside name r.day r.members; request = request } ∷ history_in name (step r (Some (Agent asking)) request).register ss)
 
 by_itself : (r : Register) (token name : List ℕ) (request : Request) (ss : List Spelled) → IsLegal r → caller_of token r ≡ Some (Agent name) → ByAgent r name request ss name
 unfolding Follow ByAgent
 by_itself r token name request ss legal is goes =
-    let next : Register = (agent_step r name request).register in
+    let next : Register = (step r (Some (Agent name)) request).register in
     goes ∙ ap (λ own. filings_alone name own (history_in name next ss)) (sym (exchange_alone r token name request legal is).filings)
 
 by_agent : (r : Register) (token name asking : List ℕ) (request : Request) (ss : List Spelled) (b : Bool) → is_same asking name ≡ b → IsLegal r → caller_of token r ≡ Some (Agent asking)
-    → Follow name (agent_step r asking request).register ss
-    → filings_of name (register_left (agent_step r asking request).register ss).members
-    ≡ filings_alone name (filings_of name r.members) (occasion_then name r (if b then Some request else None) (history_in name (agent_step r asking request).register ss))
+    → Follow name (step r (Some (Agent asking)) request).register ss
+    → filings_of name (register_left (step r (Some (Agent asking)) request).register ss).members
+    ≡ filings_alone name (filings_of name r.members) (occasion_then name r (if b then Some request else None) (history_in name (step r (Some (Agent asking)) request).register ss))
 unfolding ByAgent
 by_agent r token name asking request ss true same legal is goes =
     subst (λ n. ByAgent r asking request ss n) (same_is asking name same) (by_itself r token asking request ss legal is) goes
 by_agent r token name asking request ss false other legal is goes =
-    by_others name r (agent_step r asking request).register ss (own_filings.by_others r (Some (Agent asking)) request name other) goes
+    by_others name r (step r (Some (Agent asking)) request).register ss (own_filings.by_others r (Some (Agent asking)) request name other) goes
 
 by_caller : (r : Register) (token name : List ℕ) (request : Request) (ss : List Spelled) (caller : Option Caller) → caller_of token r ≡ caller → IsLegal r
     → Follow name (step r caller request).register ss

@@ -15,14 +15,15 @@ use Rattle.bor_register.proofs.Callers.{caller_is_enrolled, taken-caller}
 use Rattle.bor_desk.specs.declared.operations.fault.RenewFault.{RenewFault}
 use Rattle.bor_desk.specs.declared.operations.fault.RenewFault.TheVariants as renewals
 use Rattle.bor_desk.specs.declared.request.Request.{Request}
-use Rattle.bor_desk.specs.declared.request.Request.TheVariants as ask
+use Rattle.bor_desk.specs.declared.request.Request.TheVariants as of
+use Rattle.bor_desk.specs.declared.request.RegistrarRequest.TheVariants as office
 use Rattle.bor_desk.specs.declared.reply.DeskReply.TheVariants as tell
 use Rattle.bor_desk.specs.Operations.Sight.{Outcome, sight_of}
 use Rattle.bor_desk.specs.Operations.Registrar.{advance_step, enrol_step, renew_step}
 use Rattle.bor_desk.specs.Refusals.{of_renewal}
 use Rattle.bor_desk.specs.Outcomes.{IsTold}
 use Rattle.bor_desk.specs.Runs.{Asked}
-use Rattle.bor_desk.specs.Step.{exactly, told, own_after, agent_step, registrar_step, step}
+use Rattle.bor_desk.specs.Step.{exactly, told, own_after, step}
 use Rattle.bor_wire.specs.Spelling.Spell.{Spelled}
 use Rattle.bor_wire.specs.Rendering.Replies.{answered}
 use Rattle.bor_wire.specs.Inputs.{after}
@@ -43,8 +44,9 @@ agent_with-member token new (m ∷ ms) other = grind (arith, agent_with-member t
 abbrev caller_by : Register → List ℕ → Option (List ℕ) → Option Caller
 caller_by q token agent = if is_same q.registrar token then Some Registrar else option_map Agent agent
 
-caller-agent : (q : Register) (token asking : List ℕ) (request : Request) → caller_of token (agent_step q asking request).register ≡ caller_of token q
-caller-agent q token asking request = ap (caller_by q token) (agent_with-filings token asking (own_after (sight_of asking q) request) q.members)
+caller-agent : (q : Register) (token asking : List ℕ) (request : Request) → caller_of token (step q (Some (Agent asking)) request).register ≡ caller_of token q
+caller-agent q token asking (of.Registrar request) = refl
+caller-agent q token asking (of.Agent request) = ap (caller_by q token) (agent_with-filings token asking (own_after (sight_of asking q) request) q.members)
 
 -- a token that somebody has is none of a new agent's
 not_taken : (q : Register) (token new : List ℕ) (caller : Caller) → caller_of token q ≡ Some caller → is_taken new q ≡ false → is_same new token ≡ false
@@ -93,7 +95,7 @@ abbrev takes : Caller → Request → Bool
 takes Registrar request = false
 takes (Agent name) request = asks_renewal name request
 
-caller-with_renewal : (q : Register) (token other new : List ℕ) (caller : Caller) (b : Bool) → is_same q.registrar token ≡ b → is_same new token ≡ false → takes caller (ask.Renew other new) ≡ false
+caller-with_renewal : (q : Register) (token other new : List ℕ) (caller : Caller) (b : Bool) → is_same q.registrar token ≡ b → is_same new token ≡ false → takes caller (of.Registrar (office.Renew other new)) ≡ false
     → caller_of token q ≡ Some caller → caller_of token (with_renewal other new q) ≡ Some caller
 caller-with_renewal q token other new caller true e free kept is = rw e (rw e at is)
 caller-with_renewal q token other new Registrar false e free kept is = absurd (no_registrar (agent_with token q.members) (rw e at is))
@@ -104,7 +106,7 @@ either_way : {X : Type 0} (b : Bool) (P : X → Type 0) (x y : X) → P x → P 
 either_way true P x y p q = p
 either_way false P x y p q = q
 
-caller-renewed : (q : Register) (token other new : List ℕ) (caller : Caller) (b : Bool) (c : Option Caller) → is_enrolled other q.members ≡ b → caller_of new q ≡ c → takes caller (ask.Renew other new) ≡ false
+caller-renewed : (q : Register) (token other new : List ℕ) (caller : Caller) (b : Bool) (c : Option Caller) → is_enrolled other q.members ≡ b → caller_of new q ≡ c → takes caller (of.Registrar (office.Renew other new)) ≡ false
     → caller_of token q ≡ Some caller → caller_of token (renew_step q other new).register ≡ Some caller
 caller-renewed q token other new caller false c e f kept is = rw e is
 caller-renewed q token other new caller true None e f kept is =
@@ -114,20 +116,11 @@ caller-renewed q token other new caller true (Some Registrar) e f kept is = rw (
 caller-renewed q token other new caller true (Some (Agent owner)) e f kept is =
     rw (e, f) (either_way (is_same owner other) (λ (o : Outcome (Result (List ℕ) RenewFault)). caller_of token o.register ≡ Some caller) (record { answer = Ok other; register = q }) (record { answer = Err renewals.TokenTaken; register = q }) is is)
 
-caller-registrar : (q : Register) (token : List ℕ) (caller : Caller) (request : Request) → takes caller request ≡ false → caller_of token q ≡ Some caller → caller_of token (registrar_step q request).register ≡ Some caller
-caller-registrar q token caller (ask.Day date) kept is = caller-advanced q token caller date (int_lt date q.day) refl is
-caller-registrar q token caller (ask.Enrol name new) kept is = caller-enrolled q token name new caller (is_enrolled name q.members) (is_taken new q) refl refl is
-caller-registrar q token caller (ask.Renew name new) kept is = caller-renewed q token name new caller (is_enrolled name q.members) (caller_of new q) refl refl kept is
-caller-registrar q token caller ask.Register kept is = is
-caller-registrar q token caller (ask.Lodge key due file) kept is = is
-caller-registrar q token caller (ask.Withdraw key) kept is = is
-caller-registrar q token caller ask.Filings kept is = is
-caller-registrar q token caller (ask.File key) kept is = is
-caller-registrar q token caller ask.Published kept is = is
-caller-registrar q token caller (ask.Snapshot agent declaration date) kept is = is
-caller-registrar q token caller (ask.Chains entity date) kept is = is
-caller-registrar q token caller (ask.Evidence entity date) kept is = is
-caller-registrar q token caller (ask.Entities identifier date) kept is = is
+caller-registrar : (q : Register) (token : List ℕ) (caller : Caller) (request : Request) → takes caller request ≡ false → caller_of token q ≡ Some caller → caller_of token (step q (Some Registrar) request).register ≡ Some caller
+caller-registrar q token caller (of.Registrar (office.Day date)) kept is = caller-advanced q token caller date (int_lt date q.day) refl is
+caller-registrar q token caller (of.Registrar (office.Enrol name new)) kept is = caller-enrolled q token name new caller (is_enrolled name q.members) (is_taken new q) refl refl is
+caller-registrar q token caller (of.Registrar (office.Renew name new)) kept is = caller-renewed q token name new caller (is_enrolled name q.members) (caller_of new q) refl refl kept is
+caller-registrar q token caller request kept is = is
 
 -- whoever asks
 caller-step : (q : Register) (token : List ℕ) (caller : Caller) (asker : Option Caller) (request : Request) → takes caller request ≡ false → caller_of token q ≡ Some caller
@@ -163,7 +156,7 @@ record ByRegistrar (r : Register) (asked : Asked) (name token : List ℕ) : Type
   caller : caller_of asked.token r ≡ Some Registrar
   answer : (renew_step r name token).answer ≡ Ok name
 
-renewed_by : (r : Register) (asked : Asked) (name token : List ℕ) (caller : Option Caller) → caller_of asked.token r ≡ caller → IsTold (step r caller (ask.Renew name token)).answer (tell.Renewed name) → ByRegistrar r asked name token
+renewed_by : (r : Register) (asked : Asked) (name token : List ℕ) (caller : Option Caller) → caller_of asked.token r ≡ caller → IsTold (step r caller (of.Registrar (office.Renew name token))).answer (tell.Renewed name) → ByRegistrar r asked name token
 renewed_by r asked name token None is h = absurd cc
 renewed_by r asked name token (Some Registrar) is h = record { caller = is; answer = renewal_ok (renew_step r name token).answer name h }
 renewed_by r asked name token (Some (Agent asking)) is h = absurd cc
@@ -176,9 +169,9 @@ by_registrar r asked name token h =
     renewed_by r asked name token caller refl (subst (λ request. IsTold (step r caller request).answer (tell.Renewed name)) h.request tells)
 
 -- what it leaves is what the operation does
-left_by_renewal : (r : Register) (asked : Asked) (name token : List ℕ) → asked.request ≡ ask.Renew name token → caller_of asked.token r ≡ Some Registrar → after r (Ok asked) ≡ (renew_step r name token).register
+left_by_renewal : (r : Register) (asked : Asked) (name token : List ℕ) → asked.request ≡ of.Registrar (office.Renew name token) → caller_of asked.token r ≡ Some Registrar → after r (Ok asked) ≡ (renew_step r name token).register
 left_by_renewal r asked name token request caller =
-    ap (λ c. (step r c asked.request).register) caller ∙ ap (λ x. (registrar_step r x).register) request
+    ap (λ c. (step r c asked.request).register) caller ∙ ap (λ x. (step r (Some Registrar) x).register) request
 
 -- a token that nobody had is the agent's
 agent_with-new : (name token : List ℕ) (ms : List Member) → is_enrolled name ms ≡ true → agent_with token ms ≡ None → agent_with token (with_token name token ms) ≡ Some name
@@ -225,7 +218,7 @@ renewed_again r asked name token between h none =
     let registrar : caller_of asked.token q ≡ Some Registrar =
     registrar_kept (after r (Ok asked)) asked.token between (caller-step r asked.token Registrar (caller_of asked.token r) asked.request refl first.caller) in
     let answer : (step q (caller_of asked.token q) asked.request).answer ≡ exactly (tell.Renewed name) =
-    ap (λ c. (step q c asked.request).answer) registrar ∙ ap (λ x. (registrar_step q x).answer) h.request
+    ap (λ c. (step q c asked.request).answer) registrar ∙ ap (λ x. (step q (Some Registrar) x).answer) h.request
     ∙ ap (λ (o : Outcome (Result (List ℕ) RenewFault)). told tell.Renewed of_renewal o.answer) (own_again q name token now) in
     record {
       caller = now;

@@ -28,7 +28,11 @@ use Rattle.bor_desk.specs.declared.refusal.Refusal.{Refusal}
 use Rattle.bor_desk.specs.declared.refusal.Refusal.TheVariants as refuse
 use Rattle.bor_desk.specs.declared.reply.DeskReply.TheVariants as tell
 use Rattle.bor_desk.specs.declared.request.Request.{Request}
-use Rattle.bor_desk.specs.declared.request.Request.TheVariants as ask
+use Rattle.bor_desk.specs.declared.request.Request.TheVariants as of
+use Rattle.bor_desk.specs.declared.request.AgentRequest.{AgentRequest}
+use Rattle.bor_desk.specs.declared.request.AgentRequest.TheVariants as ask
+use Rattle.bor_desk.specs.declared.request.RegistrarRequest.{RegistrarRequest}
+use Rattle.bor_desk.specs.declared.request.RegistrarRequest.TheVariants as office
 use Rattle.bor_http.specs.Incoming.Message.{Parts, IsTakenApart}
 use Rattle.bor_http.specs.Incoming.Head.{head_end}
 use Rattle.bor_wire.specs.Spelling.Refusals.{refusals_spelled}
@@ -38,18 +42,11 @@ use Rattle.bor_wire.specs.Inputs.{IsSaid}
 
 -- ---- who asks
 
--- only the registrar asks it
-abbrev pub is_registrars : Request → Bool
-is_registrars (ask.Day date) = true
-is_registrars (ask.Enrol name token) = true
-is_registrars (ask.Renew name token) = true
-is_registrars ask.Register = true
-is_registrars request = false
-
 abbrev pub lines_of_caller : Option Caller → Request → List Refusal
 lines_of_caller None request = refuse.NoAgent ∷ []
-lines_of_caller (Some (Agent name)) request = line (is_registrars request) refuse.NotRegistrar
-lines_of_caller (Some Registrar) request = line (not (is_registrars request)) refuse.NotAgent
+lines_of_caller (Some (Agent name)) (of.Registrar request) = refuse.NotRegistrar ∷ []
+lines_of_caller (Some Registrar) (of.Agent request) = refuse.NotAgent ∷ []
+lines_of_caller (Some caller) request = []
 
 -- ---- a lodging
 
@@ -95,7 +92,7 @@ lines_of_withdrawal s (Some f) =
     ∷ line (not f.withdrawn && has_successor f.number s.own) refuse.HasSuccessor
     ∷ [])
 
-abbrev pub lines_of_agent : Sight → Request → List Refusal
+abbrev pub lines_of_agent : Sight → AgentRequest → List Refusal
 lines_of_agent s (ask.Lodge key due file) = lines_of_lodging s due file (filing_keyed key s.own)
 lines_of_agent s (ask.Withdraw key) = lines_of_withdrawal s (filing_keyed key s.own)
 lines_of_agent s (ask.File key) = line (is_none (filing_keyed key s.own)) refuse.NoSuchFiling
@@ -113,22 +110,23 @@ is_another name None = false
 is_another name (Some Registrar) = true
 is_another name (Some (Agent owner)) = not (is_same owner name)
 
-abbrev pub lines_of_registrar : Register → Request → List Refusal
-lines_of_registrar r (ask.Day date) = line (int_lt date r.day) refuse.DayBack
-lines_of_registrar r (ask.Enrol name token) =
+abbrev pub lines_of_registrar : Register → RegistrarRequest → List Refusal
+lines_of_registrar r (office.Day date) = line (int_lt date r.day) refuse.DayBack
+lines_of_registrar r (office.Enrol name token) =
     table (line (is_enrolled name r.members) refuse.NameTaken
     ∷ line (is_taken token r) refuse.TokenTaken ∷ [])
-lines_of_registrar r (ask.Renew name token) =
+lines_of_registrar r (office.Renew name token) =
     table (line (not (is_enrolled name r.members)) refuse.NoSuchAgent
     ∷ line (is_another name (caller_of token r)) refuse.TokenTaken ∷ [])
-lines_of_registrar r request = []
+lines_of_registrar r office.Register = []
 
 -- ---- the whole table
 
 abbrev pub lines_of_operation : Register → Option Caller → Request → List Refusal
-lines_of_operation r None request = []
-lines_of_operation r (Some (Agent name)) request = lines_of_agent (sight_of name r) request
-lines_of_operation r (Some Registrar) request = lines_of_registrar r request
+lines_of_operation r (Some (Agent name)) (of.Agent request) =
+    lines_of_agent (sight_of name r) request
+lines_of_operation r (Some Registrar) (of.Registrar request) = lines_of_registrar r request
+lines_of_operation r caller request = []
 
 -- those of the register: who asks, and then what is asked
 abbrev pub register_refusals : Register → Option Caller → Request → List Refusal

@@ -9,7 +9,9 @@ use Rattle.bor_register.specs.Publication.{state_of}
 use Rattle.bor_desk.specs.declared.operations.lodging.Lodged.{Lodged}
 use Rattle.bor_desk.specs.declared.refusal.Refusal.TheVariants.{KeyReused}
 use Rattle.bor_desk.specs.declared.request.Request.{Request}
-use Rattle.bor_desk.specs.declared.request.Request.TheVariants.{Lodge, Renew}
+use Rattle.bor_desk.specs.declared.request.Request.TheVariants as of
+use Rattle.bor_desk.specs.declared.request.AgentRequest.TheVariants.{Lodge}
+use Rattle.bor_desk.specs.declared.request.RegistrarRequest.TheVariants.{Renew}
 use Rattle.bor_desk.specs.declared.reply.DeskReply.TheVariants as tell
 use Rattle.bor_desk.specs.Runs.{Asked}
 use Rattle.bor_wire.specs.Spelling.Spell.{Spelled, Spells}
@@ -22,7 +24,7 @@ use Rattle.bor_wire.specs.Runs.{register_left}
 
 -- whether the request is to renew the agent's token
 abbrev pub asks_renewal : List ℕ → Request → Bool
-asks_renewal name (Renew other token) = is_same other name
+asks_renewal name (of.Registrar (Renew other token)) = is_same other name
 asks_renewal name request = false
 
 abbrev pub renews : List ℕ → Spelled → Bool
@@ -42,7 +44,7 @@ pub record AreOneAgents (r : Register) (token : List ℕ) (q : Register)
 -- the filing, whether the lodging is new or not.
 pub record IsLodged (r : Register) (asked : Asked) (key : List ℕ) (due : ℤ) (file : List ℕ)
     (told : Lodged) : Type 0 where
-  pub request : asked.request ≡ Lodge key due file
+  pub request : asked.request ≡ of.Agent (Lodge key due file)
   pub said : IsSaid r (Ok asked) (answered (tell.Lodged told))
 
 -- The parts of a repeated reply on a filing: its number and its due day as before, its state now,
@@ -83,7 +85,7 @@ pub record IsReused (q : Register) (asked : Asked) : Type 0 where
 
 -- The request is to renew an agent's token, and is answered so, whether the token is new or not.
 pub record IsRenewed (r : Register) (asked : Asked) (name token : List ℕ) : Type 0 where
-  pub request : asked.request ≡ Renew name token
+  pub request : asked.request ≡ of.Registrar (Renew name token)
   pub said : IsSaid r (Ok asked) (answered (tell.Renewed name))
 
 -- The renewal was answered before, and is sent again: the agent has the token, the answer is the
@@ -116,7 +118,7 @@ pub record RepeatsActOnce : Type 0 where
       (file other : List ℕ) (told : Lodged) (between : List Spelled) →
       IsLodged r asked key due file told
       → AreOneAgents r asked.token (register_left (after r (Ok asked)) between) another.token
-      → another.request ≡ Lodge key date other → (date ≢ due) ⊎ (other ≢ file) →
+      → another.request ≡ of.Agent (Lodge key date other) → (date ≢ due) ⊎ (other ≢ file) →
       IsReused (register_left (after r (Ok asked)) between) another
   pub kept : (r : Register) (token name : List ℕ) (inputs : List Spelled)
       → caller_of token r ≡ Some (Agent name) → list_any (renews name) inputs ≡ false

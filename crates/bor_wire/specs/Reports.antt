@@ -14,7 +14,8 @@ use Rattle.bor_desk.specs.declared.evidence.lines.EntityEvidence.{EntityEvidence
 use Rattle.bor_desk.specs.declared.evidence.lines.RecordEvidence.{RecordEvidence}
 use Rattle.bor_desk.specs.Evidence.{AreRecords, IsEntityEvidence, without_first}
 use Rattle.bor_desk.specs.Runs.{Asked}
-use Rattle.bor_desk.specs.declared.request.Request.TheVariants as ask
+use Rattle.bor_desk.specs.declared.request.Request.TheVariants as of
+use Rattle.bor_desk.specs.declared.request.AgentRequest.TheVariants.{Chains, Evidence, Entities}
 use Rattle.bor_desk.specs.declared.reply.DeskReply.TheVariants as tell
 use Rattle.bor_wire.specs.Spelling.Spell.{Spelled}
 use Rattle.bor_wire.specs.Rendering.Replies.{Said, answered, status_of, bytes_of}
@@ -57,12 +58,12 @@ pub record FindsTheIdentified (r : Register) (token : List ℕ) (identifier : Id
 -- the reply with status 200 to a request for a report on chains, for the evidence of one, or for
 -- the entities that have an identifier
 pub record IsExactTo (r : Register) (asked : Asked) (said : Said) : Type 0 where
-  pub report : (entity : Node) (date : Option ℤ) → asked.request ≡ ask.Chains entity date
+  pub report : (entity : Node) (date : Option ℤ) → asked.request ≡ of.Agent (Chains entity date)
       → status_of said ≡ 200 → NamesTheJoined r asked.token entity date said
-  pub evidence : (entity : Node) (date : Option ℤ) → asked.request ≡ ask.Evidence entity date
+  pub evidence : (entity : Node) (date : Option ℤ) → asked.request ≡ of.Agent (Evidence entity date)
       → status_of said ≡ 200 → TellsTheEvidence r asked.token entity date said
   pub found : (identifier : Identifier) (date : Option ℤ)
-      → asked.request ≡ ask.Entities identifier date
+      → asked.request ≡ of.Agent (Entities identifier date)
       → status_of said ≡ 200 → FindsTheIdentified r asked.token identifier date said
 
 abbrev pub IsExact : Register → Spelled → Said → Type 0

@@ -1,10 +1,11 @@
 -- Runs that go on where others have ended, as after a restart of the program.
-use Rattle.std.specs.Prelude.{◌≡◌, ◌++◌, ℕ, ℤ, List, [], ◌∷◌}
+use Rattle.std.specs.Prelude.{◌≡◌, ◌++◌, ℕ, ℤ, List, [], ◌∷◌, Some}
+use Rattle.bor_register.specs.declared.caller.Caller.TheVariants.{Agent}
 use Rattle.bor_register.specs.declared.filing.AcceptedFiling.{AcceptedFiling}
 use Rattle.bor_register.specs.Register.{Register, empty_register, filings_of}
 use Rattle.bor_desk.specs.Operations.Legality.{IsLegal}
 use Rattle.bor_desk.specs.Operations.Solo.{solo_register}
-use Rattle.bor_desk.specs.Step.{agent_step}
+use Rattle.bor_desk.specs.Step.{step}
 use Rattle.bor_desk.specs.Runs.{Occasion}
 use Rattle.bor_wire.specs.Spelling.Spell.{Spelled}
 use Rattle.bor_wire.specs.Runs.{AreReplies, register_left}
@@ -52,8 +53,8 @@ ExchangesCompose {K} shows =
 abbrev pub filings_alone : List ℕ → List AcceptedFiling → List Occasion → List AcceptedFiling
 filings_alone name own [] = own
 filings_alone name own (e ∷ rest) =
-    filings_alone name (filings_of name
-    (agent_step (solo_register name own e.day e.others) name e.request).register.members) rest
+    let o = step (solo_register name own e.day e.others) (Some (Agent name)) e.request in
+    filings_alone name (filings_of name o.register.members) rest
 
 -- After a run an agent has the filings that follow from those at the start and its history.
 abbrev pub FilingsFollowHistory : Type 0

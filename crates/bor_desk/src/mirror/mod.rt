@@ -7,7 +7,7 @@
 //! ```
 //! let mut keep = MirroredKeep::new(store, 200_000);
 //! keep.fill();
-//! answer(alloc, &mut keep, &token, &Request::Published);       // the store isn't asked
+//! answer(alloc, &mut keep, &token, &Request::Agent(AgentRequest::Published)); // the store isn't asked
 //! ```
 //!
 //! A store that can be mirrored is a [`MirrorStore`]. What the mirror holds is bounded: where it

@@ -8,7 +8,9 @@ use Rattle.form_urlencoded.proofs.OnLiterals.{form_urlencoded_on_literals}
 use Rattle.bor_terms.specs.Texts.{is_agent_name, is_lodge_key, is_ident, is_token}
 use Rattle.bor_terms.specs.Day.{pair_at, number_of, has_marks, digits_day, day_of}
 use Rattle.bor_desk.specs.declared.request.Request.{Request}
-use Rattle.bor_desk.specs.declared.request.Request.TheVariants as ask
+use Rattle.bor_desk.specs.declared.request.Request.TheVariants as of
+use Rattle.bor_desk.specs.declared.request.AgentRequest.TheVariants as ask
+use Rattle.bor_desk.specs.declared.request.RegistrarRequest.TheVariants as office
 use Rattle.bor_http.specs.declared.incoming.fault.Path.TheVariants as paths
 use Rattle.bor_http.specs.declared.incoming.fault.Name.TheVariants as names
 use Rattle.bor_http.specs.declared.incoming.fault.Refusal.{Refusal}
@@ -341,20 +343,20 @@ day text = unwrap_or (day_of text) (pos 0)
 
 abbrev of_each_route : Askings
 of_each_route =
-    (request (codes "PUT") (codes "/filings/f1?key=f2&due=2024-02-01") (by_alder ∷ length_is (codes "2") ∷ []) (codes "[]{}"), ask.Lodge (codes "f1") (day (codes "2024-02-01")) (codes "[]"))
-    ∷ (request (codes "DELETE") (codes "/filings/f1?due=x") (by_alder ∷ []) [], ask.Withdraw (codes "f1"))
-    ∷ (get (codes "/filings"), ask.Filings)
-    ∷ (get (codes "/filings/f1/file"), ask.File (codes "f1"))
-    ∷ (get (codes "/published"), ask.Published)
-    ∷ (get (codes "/snapshot?agent=alder&declaration=c+1&date=2024-01-11"), ask.Snapshot (codes "alder") (codes "c 1") (Some (day (codes "2024-01-11"))))
-    ∷ (get (codes "/snapshot?declaration=c1&agent=alder"), ask.Snapshot (codes "alder") (codes "c1") None)
-    ∷ (get (codes "/chains?agent=alder&declaration=c1&record=e%31"), ask.Chains (record { agent = codes "alder"; declaration = codes "c1"; rec = codes "e1" }) None)
-    ∷ (get (codes "/evidence?agent=alder&declaration=c1&record=e1&date=2024-01-11"), ask.Evidence (record { agent = codes "alder"; declaration = codes "c1"; rec = codes "e1" }) (Some (day (codes "2024-01-11"))))
-    ∷ (get (codes "/entities?scheme=50%25&id=00000001"), ask.Entities (record { scheme = codes "50%"; id = codes "00000001" }) None)
-    ∷ (post (codes "/day?date=2024-03-01") (codes "0") [], ask.Day (day (codes "2024-03-01")))
-    ∷ (post (codes "/agents?name=cedar&token=x") (codes "18") (codes "cedar-token-000001, and more"), ask.Enrol (codes "cedar") (codes "cedar-token-000001"))
-    ∷ (renew (codes "/agents/cedar") (codes "18") (codes "cedar-token-000002, and more"), ask.Renew (codes "cedar") (codes "cedar-token-000002"))
-    ∷ (get (codes "/register?date=1"), ask.Register)
+    (request (codes "PUT") (codes "/filings/f1?key=f2&due=2024-02-01") (by_alder ∷ length_is (codes "2") ∷ []) (codes "[]{}"), of.Agent (ask.Lodge (codes "f1") (day (codes "2024-02-01")) (codes "[]")))
+    ∷ (request (codes "DELETE") (codes "/filings/f1?due=x") (by_alder ∷ []) [], of.Agent (ask.Withdraw (codes "f1")))
+    ∷ (get (codes "/filings"), of.Agent ask.Filings)
+    ∷ (get (codes "/filings/f1/file"), of.Agent (ask.File (codes "f1")))
+    ∷ (get (codes "/published"), of.Agent ask.Published)
+    ∷ (get (codes "/snapshot?agent=alder&declaration=c+1&date=2024-01-11"), of.Agent (ask.Snapshot (codes "alder") (codes "c 1") (Some (day (codes "2024-01-11")))))
+    ∷ (get (codes "/snapshot?declaration=c1&agent=alder"), of.Agent (ask.Snapshot (codes "alder") (codes "c1") None))
+    ∷ (get (codes "/chains?agent=alder&declaration=c1&record=e%31"), of.Agent (ask.Chains (record { agent = codes "alder"; declaration = codes "c1"; rec = codes "e1" }) None))
+    ∷ (get (codes "/evidence?agent=alder&declaration=c1&record=e1&date=2024-01-11"), of.Agent (ask.Evidence (record { agent = codes "alder"; declaration = codes "c1"; rec = codes "e1" }) (Some (day (codes "2024-01-11")))))
+    ∷ (get (codes "/entities?scheme=50%25&id=00000001"), of.Agent (ask.Entities (record { scheme = codes "50%"; id = codes "00000001" }) None))
+    ∷ (post (codes "/day?date=2024-03-01") (codes "0") [], of.Registrar (office.Day (day (codes "2024-03-01"))))
+    ∷ (post (codes "/agents?name=cedar&token=x") (codes "18") (codes "cedar-token-000001, and more"), of.Registrar (office.Enrol (codes "cedar") (codes "cedar-token-000001")))
+    ∷ (renew (codes "/agents/cedar") (codes "18") (codes "cedar-token-000002, and more"), of.Registrar (office.Renew (codes "cedar") (codes "cedar-token-000002")))
+    ∷ (get (codes "/register?date=1"), of.Registrar office.Register)
     ∷ []
 
 of_each_route_spelled : spelled of_each_route ≡ asked_by_alder of_each_route

@@ -6,7 +6,9 @@ use Rattle.bor_terms.specs.Tables.{table, outcome}
 use Rattle.bods_read.specs.declared.details.Identifier.{Identifier}
 use Rattle.bor_records.specs.declared.links.node.Node.{Node}
 use Rattle.bor_desk.specs.declared.request.Request.{Request}
-use Rattle.bor_desk.specs.declared.request.Request.TheVariants as ask
+use Rattle.bor_desk.specs.declared.request.Request.TheVariants as of
+use Rattle.bor_desk.specs.declared.request.AgentRequest.TheVariants as ask
+use Rattle.bor_desk.specs.declared.request.RegistrarRequest.TheVariants as office
 use Rattle.bor_desk.specs.Runs.{Asked}
 use Rattle.bor_http.specs.declared.incoming.fault.Path.{Path}
 use Rattle.bor_http.specs.declared.incoming.fault.Name.{Name}
@@ -78,28 +80,28 @@ identifier scheme id = record { scheme = scheme; id = id }
 
 request_stepwise : (r : Route) (m : Message) → request_by_steps r m ≡ outcome (lines_of_names (Some r) m) (request_of (Some r) m)
 unfolding request_by_steps node_by_steps identifier_by_steps lodging_by_steps snapshot_by_steps enrolment_by_steps renewal_by_steps
-request_stepwise routes.Lodge m = two_names names.Key names.Due (part.key m) (part.due m) [] (pos 0) (λ key due. ask.Lodge key due m.body)
-request_stepwise routes.Withdraw m = one_name names.Key (part.key m) [] (λ key. ask.Withdraw key)
+request_stepwise routes.Lodge m = two_names names.Key names.Due (part.key m) (part.due m) [] (pos 0) (λ key due. of.Agent (ask.Lodge key due m.body))
+request_stepwise routes.Withdraw m = one_name names.Key (part.key m) [] (λ key. of.Agent (ask.Withdraw key))
 request_stepwise routes.Filings m = refl
-request_stepwise routes.File m = one_name names.Key (part.key m) [] (λ key. ask.File key)
+request_stepwise routes.File m = one_name names.Key (part.key m) [] (λ key. of.Agent (ask.File key))
 request_stepwise routes.Published m = refl
 request_stepwise routes.Snapshot m =
     three_names names.Agent names.Declaration names.Date (part.agent m) (part.declaration m) (part.date_or_none m) [] [] None
-    (λ agent declaration date. ask.Snapshot agent declaration date)
+    (λ agent declaration date. of.Agent (ask.Snapshot agent declaration date))
 request_stepwise routes.Chains m =
     four_names names.Agent names.Declaration names.Record names.Date (part.agent m) (part.declaration m) (part.rec m) (part.date_or_none m) [] [] [] None
-    node (λ node date. ask.Chains node date)
+    node (λ node date. of.Agent (ask.Chains node date))
 request_stepwise routes.Evidence m =
     four_names names.Agent names.Declaration names.Record names.Date (part.agent m) (part.declaration m) (part.rec m) (part.date_or_none m) [] [] [] None
-    node (λ node date. ask.Evidence node date)
+    node (λ node date. of.Agent (ask.Evidence node date))
 request_stepwise routes.Entities m =
     two_and_one names.Scheme names.Id names.Date (part.scheme m) (part.id m) (part.date_or_none m) [] [] None
-    identifier (λ identifier date. ask.Entities identifier date)
-request_stepwise routes.Day m = one_name names.Date (part.date m) (pos 0) (λ date. ask.Day date)
+    identifier (λ identifier date. of.Agent (ask.Entities identifier date))
+request_stepwise routes.Day m = one_name names.Date (part.date m) (pos 0) (λ date. of.Registrar (office.Day date))
 request_stepwise routes.Enrol m =
-    two_names names.Name names.Token (part.new_name m) (part.new_token m) [] [] (λ name token. ask.Enrol name token)
+    two_names names.Name names.Token (part.new_name m) (part.new_token m) [] [] (λ name token. of.Registrar (office.Enrol name token))
 request_stepwise routes.Renew m =
-    two_names names.Name names.Token (part.name m) (part.new_token m) [] [] (λ name token. ask.Renew name token)
+    two_names names.Name names.Token (part.name m) (part.new_token m) [] [] (λ name token. of.Registrar (office.Renew name token))
 request_stepwise routes.Register m = refl
 
 -- ---- the lines about the whole message

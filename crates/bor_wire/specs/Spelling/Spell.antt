@@ -3,7 +3,9 @@ use Rattle.std.specs.Prelude.{◌≡◌, ℕ, ℤ, pos, List, [], drop, Option, 
 use Rattle.std.specs.Prelude.{unwrap_or, ⊤}
 use Rattle.bor_terms.specs.Tables.{outcome}
 use Rattle.bor_desk.specs.declared.request.Request.{Request}
-use Rattle.bor_desk.specs.declared.request.Request.TheVariants as ask
+use Rattle.bor_desk.specs.declared.request.Request.TheVariants as of
+use Rattle.bor_desk.specs.declared.request.AgentRequest.TheVariants as ask
+use Rattle.bor_desk.specs.declared.request.RegistrarRequest.TheVariants as office
 use Rattle.bor_desk.specs.Runs.{Asked}
 use Rattle.bor_http.specs.declared.incoming.fault.Refusal.{Refusal}
 use Rattle.bor_http.specs.declared.incoming.fault.WireFault.{WireFault}
@@ -30,37 +32,39 @@ day_or_any day = unwrap_or day (pos 0)
 
 -- the request that a route asks for
 abbrev pub request_of : Option Route → Message → Request
-request_of None m = ask.Filings
+request_of None m = of.Agent ask.Filings
 request_of (Some routes.Lodge) m =
-    ask.Lodge (text_or_any (part.key m)) (day_or_any (part.due m)) m.body
-request_of (Some routes.Withdraw) m = ask.Withdraw (text_or_any (part.key m))
-request_of (Some routes.Filings) m = ask.Filings
-request_of (Some routes.File) m = ask.File (text_or_any (part.key m))
-request_of (Some routes.Published) m = ask.Published
+    of.Agent (ask.Lodge (text_or_any (part.key m)) (day_or_any (part.due m)) m.body)
+request_of (Some routes.Withdraw) m = of.Agent (ask.Withdraw (text_or_any (part.key m)))
+request_of (Some routes.Filings) m = of.Agent ask.Filings
+request_of (Some routes.File) m = of.Agent (ask.File (text_or_any (part.key m)))
+request_of (Some routes.Published) m = of.Agent ask.Published
 request_of (Some routes.Snapshot) m =
-    ask.Snapshot (text_or_any (part.agent m)) (text_or_any (part.declaration m))
-    (unwrap_or (part.date_or_none m) None)
+    of.Agent (ask.Snapshot (text_or_any (part.agent m)) (text_or_any (part.declaration m))
+    (unwrap_or (part.date_or_none m) None))
 request_of (Some routes.Chains) m =
-    ask.Chains (record {
+    of.Agent (ask.Chains (record {
       agent = text_or_any (part.agent m);
       declaration = text_or_any (part.declaration m);
       rec = text_or_any (part.rec m);
-    }) (unwrap_or (part.date_or_none m) None)
+    }) (unwrap_or (part.date_or_none m) None))
 request_of (Some routes.Evidence) m =
-    ask.Evidence (record {
+    of.Agent (ask.Evidence (record {
       agent = text_or_any (part.agent m);
       declaration = text_or_any (part.declaration m);
       rec = text_or_any (part.rec m);
-    }) (unwrap_or (part.date_or_none m) None)
+    }) (unwrap_or (part.date_or_none m) None))
 request_of (Some routes.Entities) m =
-    ask.Entities (record { scheme = text_or_any (part.scheme m); id = text_or_any (part.id m) })
-    (unwrap_or (part.date_or_none m) None)
-request_of (Some routes.Day) m = ask.Day (day_or_any (part.date m))
+    of.Agent (ask.Entities
+    (record { scheme = text_or_any (part.scheme m); id = text_or_any (part.id m) })
+    (unwrap_or (part.date_or_none m) None))
+request_of (Some routes.Day) m = of.Registrar (office.Day (day_or_any (part.date m)))
 request_of (Some routes.Enrol) m =
-    ask.Enrol (text_or_any (part.new_name m)) (text_or_any (part.new_token m))
+    of.Registrar
+    (office.Enrol (text_or_any (part.new_name m)) (text_or_any (part.new_token m)))
 request_of (Some routes.Renew) m =
-    ask.Renew (text_or_any (part.name m)) (text_or_any (part.new_token m))
-request_of (Some routes.Register) m = ask.Register
+    of.Registrar (office.Renew (text_or_any (part.name m)) (text_or_any (part.new_token m)))
+request_of (Some routes.Register) m = of.Registrar office.Register
 
 -- the request of a message, and the token of whoever asks
 unfoldable pub asked : Message → Asked
@@ -79,7 +83,7 @@ spell m = outcome (lines_of_message m) (asked m)
 
 abbrev pub asked_behind : List ℕ → Option ℕ → Option Parts → Asked
 asked_behind input (Some n) (Some parts) = asked (message_of parts (drop n input))
-asked_behind input end head = record { token = []; request = ask.Filings }
+asked_behind input end head = record { token = []; request = of.Agent ask.Filings }
 
 -- the request, or the refusal, that an input spells whose head is taken apart so
 unfoldable pub spelling : List ℕ → Option Parts → Spelled

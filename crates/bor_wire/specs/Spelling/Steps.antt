@@ -6,7 +6,9 @@ use Rattle.bor_terms.specs.Texts.{is_agent_name, is_ident, is_token}
 use Rattle.bods_read.specs.declared.details.Identifier.{Identifier}
 use Rattle.bor_records.specs.declared.links.node.Node.{Node}
 use Rattle.bor_desk.specs.declared.request.Request.{Request}
-use Rattle.bor_desk.specs.declared.request.Request.TheVariants as ask
+use Rattle.bor_desk.specs.declared.request.Request.TheVariants as of
+use Rattle.bor_desk.specs.declared.request.AgentRequest.TheVariants as ask
+use Rattle.bor_desk.specs.declared.request.RegistrarRequest.TheVariants as office
 use Rattle.bor_http.specs.declared.incoming.fault.Name.{Name}
 use Rattle.bor_http.specs.declared.incoming.fault.Name.TheVariants as names
 use Rattle.bor_http.specs.declared.incoming.fault.Refusal.{Refusal}
@@ -63,7 +65,7 @@ unfoldable pub lodging_by_steps : List ℕ → List TextPair → List ℕ → Re
 lodging_by_steps path pairs body = do
   key ← named names.Key (part.key_in path)
   due ← named names.Due (part.once day_of names.Due pairs)
-  Ok (ask.Lodge key due body)
+  Ok (of.Agent (ask.Lodge key due body))
 
 -- the snapshot that a query asks for
 unfoldable pub snapshot_by_steps : List TextPair → Result Request Refusal
@@ -71,51 +73,51 @@ snapshot_by_steps pairs = do
   agent ← named names.Agent (part.once (part.fitting is_agent_name) names.Agent pairs)
   declaration ← named names.Declaration (part.once (part.fitting is_ident) names.Declaration pairs)
   date ← named names.Date (part.at_most_once day_of names.Date pairs)
-  Ok (ask.Snapshot agent declaration date)
+  Ok (of.Agent (ask.Snapshot agent declaration date))
 
 -- the enrolment that a query and a body ask for
 unfoldable pub enrolment_by_steps : List TextPair → List ℕ → Result Request Refusal
 enrolment_by_steps pairs body = do
   name ← named names.Name (part.once (part.fitting is_agent_name) names.Name pairs)
   token ← named names.Token (part.text_in is_token body)
-  Ok (ask.Enrol name token)
+  Ok (of.Registrar (office.Enrol name token))
 
 -- the renewal that a path and a body ask for
 unfoldable pub renewal_by_steps : List ℕ → List ℕ → Result Request Refusal
 renewal_by_steps path body = do
   name ← named names.Name (part.name_in path)
   token ← named names.Token (part.text_in is_token body)
-  Ok (ask.Renew name token)
+  Ok (of.Registrar (office.Renew name token))
 
 unfoldable pub request_by_steps : Route → Message → Result Request Refusal
 request_by_steps routes.Lodge m = lodging_by_steps (part.path_text m) (part.query m) m.body
 request_by_steps routes.Withdraw m = do
   key ← named names.Key (part.key m)
-  Ok (ask.Withdraw key)
-request_by_steps routes.Filings m = Ok ask.Filings
+  Ok (of.Agent (ask.Withdraw key))
+request_by_steps routes.Filings m = Ok (of.Agent ask.Filings)
 request_by_steps routes.File m = do
   key ← named names.Key (part.key m)
-  Ok (ask.File key)
-request_by_steps routes.Published m = Ok ask.Published
+  Ok (of.Agent (ask.File key))
+request_by_steps routes.Published m = Ok (of.Agent ask.Published)
 request_by_steps routes.Snapshot m = snapshot_by_steps (part.query m)
 request_by_steps routes.Chains m = do
   node ← node_by_steps (part.query m)
   date ← named names.Date (part.date_or_none m)
-  Ok (ask.Chains node date)
+  Ok (of.Agent (ask.Chains node date))
 request_by_steps routes.Evidence m = do
   node ← node_by_steps (part.query m)
   date ← named names.Date (part.date_or_none m)
-  Ok (ask.Evidence node date)
+  Ok (of.Agent (ask.Evidence node date))
 request_by_steps routes.Entities m = do
   identifier ← identifier_by_steps (part.query m)
   date ← named names.Date (part.date_or_none m)
-  Ok (ask.Entities identifier date)
+  Ok (of.Agent (ask.Entities identifier date))
 request_by_steps routes.Day m = do
   date ← named names.Date (part.date m)
-  Ok (ask.Day date)
+  Ok (of.Registrar (office.Day date))
 request_by_steps routes.Enrol m = enrolment_by_steps (part.query m) m.body
 request_by_steps routes.Renew m = renewal_by_steps (part.path_text m) m.body
-request_by_steps routes.Register m = Ok ask.Register
+request_by_steps routes.Register m = Ok (of.Registrar office.Register)
 
 unfoldable pub spell_by_steps : Message → Spelled
 spell_by_steps m = do

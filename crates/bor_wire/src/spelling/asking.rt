@@ -9,7 +9,7 @@ use crate::spelling::target::{key_at, name_at, path_at};
 use crate::spelling::token::{new_token, token_at};
 use bods_read::Identifier;
 use bor_chains::Node;
-use bor_desk::Request;
+use bor_desk::{AgentRequest, RegistrarRequest, Request};
 use bor_http::incoming::{Name, RawRequest, Refusal, WireFault, message_in, split_at_first};
 use bor_http::routes::{Paths, Route, route_at};
 use bor_terms::{Listed, Token};
@@ -58,22 +58,22 @@ fn lodging_for(
     ensures { FindsStated (λ request. request) result
         (lodging_by_steps path.now (pair_texts pairs.now) body.now) }
 {
-    Ok(Request::Lodge {
+    Ok(Request::Agent(AgentRequest::Lodge {
         key: key_at(alloc, path)?,
         due: day_named(pairs, Name::Due)?,
         file: Listed::new(Vec::from_slice(alloc, body)?),
-    })
+    }))
 }
 
 #[tactic(auto, unfolding(crate::specs::Spelling::Steps::snapshot_by_steps))]
 fn snapshot_for(alloc: Global, pairs: &[QueryPair]) -> Result<Request, WireFault>
     ensures { FindsStated (λ request. request) result (snapshot_by_steps (pair_texts pairs.now)) }
 {
-    Ok(Request::Snapshot {
+    Ok(Request::Agent(AgentRequest::Snapshot {
         agent: agent_named(alloc, pairs, Name::Agent)?,
         declaration: ident_named(alloc, pairs, Name::Declaration)?,
         date: day_if_named(pairs, Name::Date)?,
-    })
+    }))
 }
 
 #[tactic(auto, unfolding(crate::specs::Spelling::Steps::enrolment_by_steps))]
@@ -81,20 +81,20 @@ fn enrolment_for(alloc: Global, pairs: &[QueryPair], body: &[u8]) -> Result<Requ
     ensures { FindsStated (λ request. request) result
         (enrolment_by_steps (pair_texts pairs.now) body.now) }
 {
-    Ok(Request::Enrol {
+    Ok(Request::Registrar(RegistrarRequest::Enrol {
         name: agent_named(alloc, pairs, Name::Name)?,
         token: new_token(alloc, body)?,
-    })
+    }))
 }
 
 #[tactic(auto, unfolding(crate::specs::Spelling::Steps::renewal_by_steps))]
 fn renewal_for(alloc: Global, path: &[u8], body: &[u8]) -> Result<Request, WireFault>
     ensures { FindsStated (λ request. request) result (renewal_by_steps path.now body.now) }
 {
-    Ok(Request::Renew {
+    Ok(Request::Registrar(RegistrarRequest::Renew {
         name: name_at(alloc, path)?,
         token: new_token(alloc, body)?,
-    })
+    }))
 }
 
 // The request that a route asks for, from the path, the query and the body.
@@ -106,33 +106,33 @@ fn request_for(alloc: Global, route: Route, raw: &RawRequest<'_>) -> Result<Requ
     let pairs = query_pairs(alloc, query)?;
     match route {
         Route::Lodge => lodging_for(alloc, path, &pairs, raw.body()),
-        Route::Withdraw => Ok(Request::Withdraw {
+        Route::Withdraw => Ok(Request::Agent(AgentRequest::Withdraw {
             key: key_at(alloc, path)?,
-        }),
-        Route::Filings => Ok(Request::Filings),
-        Route::File => Ok(Request::File {
+        })),
+        Route::Filings => Ok(Request::Agent(AgentRequest::Filings)),
+        Route::File => Ok(Request::Agent(AgentRequest::File {
             key: key_at(alloc, path)?,
-        }),
-        Route::Published => Ok(Request::Published),
+        })),
+        Route::Published => Ok(Request::Agent(AgentRequest::Published)),
         Route::Snapshot => snapshot_for(alloc, &pairs),
-        Route::Chains => Ok(Request::Chains {
+        Route::Chains => Ok(Request::Agent(AgentRequest::Chains {
             entity: node_named(alloc, &pairs)?,
             date: day_if_named(&pairs, Name::Date)?,
-        }),
-        Route::Evidence => Ok(Request::Evidence {
+        })),
+        Route::Evidence => Ok(Request::Agent(AgentRequest::Evidence {
             entity: node_named(alloc, &pairs)?,
             date: day_if_named(&pairs, Name::Date)?,
-        }),
-        Route::Entities => Ok(Request::Entities {
+        })),
+        Route::Entities => Ok(Request::Agent(AgentRequest::Entities {
             identifier: identifier_named(alloc, &pairs)?,
             date: day_if_named(&pairs, Name::Date)?,
-        }),
-        Route::Day => Ok(Request::Day {
+        })),
+        Route::Day => Ok(Request::Registrar(RegistrarRequest::Day {
             date: day_named(&pairs, Name::Date)?,
-        }),
+        })),
         Route::Enrol => enrolment_for(alloc, &pairs, raw.body()),
         Route::Renew => renewal_for(alloc, path, raw.body()),
-        Route::Register => Ok(Request::Register),
+        Route::Register => Ok(Request::Registrar(RegistrarRequest::Register)),
     }
 }
 

@@ -5,7 +5,7 @@
 //! let request = message_in(alloc, input)?;
 //! let asking = parse(alloc, &request)?;
 //! assert!(rt; asking.token.as_str() == "alder-token-000001");
-//! assert!(rt; matches!(asking.request, Request::Filings));
+//! assert!(rt; matches!(asking.request, Request::Agent(AgentRequest::Filings)));
 //! ```
 //!
 //! Refusals come in the order of the table in `specs/Spelling/Refusals.antt`. No register is asked

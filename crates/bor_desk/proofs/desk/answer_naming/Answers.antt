@@ -9,14 +9,21 @@ use Rattle.bor_desk.proofs.desk.answer_naming.Goals as goal
 pub answer_agent-made-requires : goal.answer_agent-made-requires
 answer_agent-made-requires g c = record {
   enrolled = λ r is clean.
-      let was = (c.in-Ok-Some-Agent.ensures.reads.kept.same clean r).1 is in
-      let who = c.in-Ok-Some-Agent.ensures.reads.answer r was clean in
-      caller_is_enrolled r c.args.token.now c.in-Ok-Some-Agent.name (cc);
+      let was = (c.in-Ok-Some-Agent-Agent.ensures.reads.kept.same clean r).1 is in
+      let who = c.in-Ok-Some-Agent-Agent.ensures.reads.answer r was clean in
+      caller_is_enrolled r c.args.token.now c.in-Ok-Some-Agent-Agent.name (cc);
 }
 
-pub returns-in-Ok-Some-Agent-clause-accounted : goal.returns-in-Ok-Some-Agent-clause-accounted
-returns-in-Ok-Some-Agent-clause-accounted g c =
-    let who = c.in-Ok-Some-Agent.ensures.reads in
+pub returns-in-Ok-Some-Agent-Agent-clause-accounted : goal.returns-in-Ok-Some-Agent-Agent-clause-accounted
+returns-in-Ok-Some-Agent-Agent-clause-accounted g c =
+    let who = c.in-Ok-Some-Agent-Agent.ensures.reads in
     let made = c.answer_agent-made.ensures in
-    subst (λ (reply : DeskReply). Accounts g.K.Keep.meaning c.args.keep.now c.answer_agent-made.new.keep (fault_of reply)) (sym c.named-in-Ok-Some-Agent.ensures.reply)
+    subst (λ (reply : DeskReply). Accounts g.K.Keep.meaning c.args.keep.now c.answer_agent-made.new.keep (fault_of reply)) (sym c.named-in-Ok-Some-Agent-Agent.ensures.reply)
+    (after_answer g.K.Keep.meaning _ _ _ _ who.kept who.counts who.lasts made.leaves.began made.accounted)
+
+pub returns-in-Ok-Some-Registrar-Registrar-clause-accounted : goal.returns-in-Ok-Some-Registrar-Registrar-clause-accounted
+returns-in-Ok-Some-Registrar-Registrar-clause-accounted g c =
+    let who = c.in-Ok-Some-Registrar-Registrar.ensures.reads in
+    let made = c.answer_registrar.ensures in
+    subst (λ (reply : DeskReply). Accounts g.K.Keep.meaning c.args.keep.now c.answer_registrar.new.keep (fault_of reply)) (sym c.named-in-Ok-Some-Registrar-Registrar.ensures.reply)
     (after_answer g.K.Keep.meaning _ _ _ _ who.kept who.counts who.lasts made.leaves.began made.accounted)
