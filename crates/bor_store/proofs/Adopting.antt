@@ -48,7 +48,7 @@ version_first_is = (refl, (refl, refl), refl)
 
 pub version_asks : IsQuery version_text
 unfolding everything
-version_asks schema = understood_never schema version_text refl
+version_asks schema = understood_never schema version_text (_, refl)
 
 -- what the query shows of a state it shows of it whatever it leaves
 module _ (old new : State) where

@@ -1,6 +1,6 @@
 -- The meanings of the texts that make the tables and put down the register's row, whatever the schema.
 use Rattle.std.specs.Option.{option_or}
-use Rattle.std.proofs.Common.{not, length, ◌==◌, ◌&&◌, ◌≡◌, ◌⊎◌, inl, inr, ℕ, ◌+◌, Bool, true, false, cond, List, [], ◌∷◌, slice_range, Option, None, Some, slice_get, Ok, Err, Result, is_some, true≢false, refl, sym, ap, subst, ◌∙◌}
+use Rattle.std.proofs.Common.{not, length, ◌==◌, ◌&&◌, ◌≡◌, ◌⊎◌, inl, inr, ℕ, ◌+◌, Bool, true, false, cond, List, [], slice_range, Option, None, Some, slice_get, Ok, Err, Result, is_some, true≢false, refl, sym, ap, subst, ◌∙◌}
 use Rattle.sqlite.proofs.Callers.{IsPlain}
 use Rattle.sqlite.specs.Command.{Command}
 use Rattle.sqlite.specs.Command.TheVariants.{CreateTable, CreateIndex, Insert, Nothing}
@@ -29,13 +29,11 @@ use Rattle.sqlite_syntax.specs.declared.statement.Parsed.{Parsed}
 
 -- it makes a table, and no other is to be left in its place
 abbrev pub Makes : Statement → Type 0
-Makes (written.CreateTable def) = def.if_missing ≡ false
-Makes _ = ⊥
+Makes s = (def : CreateTableText) × (s ≡ written.CreateTable def) × (def.if_missing ≡ false)
 
 -- the same of an index of a table of this name
 abbrev pub Indexes : List ℕ → Statement → Type 0
-Indexes name (written.CreateIndex def) = (def.if_missing ≡ false) × (def.table ≡ name)
-Indexes name _ = ⊥
+Indexes name s = (def : CreateIndexText) × (s ≡ written.CreateIndex def) × (def.if_missing ≡ false) × (def.table ≡ name)
 
 -- the text is one such statement, and nothing else
 abbrev pub Reads : (Statement → Type 0) → List ℕ → Result Parsed CompileError → Type 0
@@ -117,57 +115,29 @@ of_command Is text p (Ok k) c is whole h none =
     let same : with_command p (p.formats, (k, None)) ≡ c = cc in
     subst (Means Is text) same (record { command = is k refl; plain = (refl, none); whole = whole })
 
-of_making : (schema : Schema) (text : List ℕ) (p : Parsed) (s : Statement) (c : Compiled) → Makes s → slice_range text p.start p.end ≡ text
-    → and_then (planned schema (record p { statement = s })) (λ plan. Ok (with_command (record p { statement = s }) plan)) ≡ Ok c → Means (λ k. k ≡ CreateTable) text c
-unfolding planned meaning returning command timed
-of_making schema text p (written.CreateTable def) c makes whole h =
-    of_command (λ k. k ≡ CreateTable) text (record p { statement = written.CreateTable def; formats = [] }) (create_table schema p.formats def) c (λ k. new_alone schema p.formats def k makes) whole h refl
-of_making schema text p written.Empty c makes whole h = absurd makes
-of_making schema text p (written.Select x1) c makes whole h = absurd makes
-of_making schema text p (written.Insert x1 x2 x3 x4 x5 x6) c makes whole h = absurd makes
-of_making schema text p (written.Update x1 x2 x3 x4) c makes whole h = absurd makes
-of_making schema text p (written.Delete x1 x2 x3) c makes whole h = absurd makes
-of_making schema text p (written.Pragma x1 x2) c makes whole h = absurd makes
-of_making schema text p (written.CreateIndex x1) c makes whole h = absurd makes
-of_making schema text p (written.CreateView x1 x2 x3 x4) c makes whole h = absurd makes
-of_making schema text p (written.DropTable x1 x2) c makes whole h = absurd makes
-of_making schema text p (written.DropIndex x1 x2) c makes whole h = absurd makes
-of_making schema text p (written.DropView x1 x2) c makes whole h = absurd makes
-of_making schema text p written.Begin c makes whole h = absurd makes
-of_making schema text p written.Commit c makes whole h = absurd makes
-of_making schema text p written.Rollback c makes whole h = absurd makes
-of_making schema text p (written.Savepoint x1) c makes whole h = absurd makes
-of_making schema text p (written.Release x1) c makes whole h = absurd makes
-of_making schema text p (written.RollbackTo x1) c makes whole h = absurd makes
+-- what is understood of a statement that was read
+abbrev compiled_of : Schema → Parsed → Result Compiled CompileError
+compiled_of schema p = and_then (planned schema p) (λ plan. Ok (with_command p plan))
 
-of_indexing : (schema : Schema) (name text : List ℕ) (p : Parsed) (s : Statement) (c : Compiled) → Indexes name s → slice_range text p.start p.end ≡ text → p.formats ≡ []
-    → and_then (planned schema (record p { statement = s })) (λ plan. Ok (with_command (record p { statement = s }) plan)) ≡ Ok c → Means (IsIndexOf schema name) text c
+of_making : (schema : Schema) (text : List ℕ) (p : Parsed) (s : Statement) (c : Compiled) → Makes s → slice_range text p.start p.end ≡ text → compiled_of schema (record p { statement = s }) ≡ Ok c
+    → Means (λ k. k ≡ CreateTable) text c
 unfolding planned meaning returning command timed
-of_indexing schema name text p (written.CreateIndex def) c makes whole none h =
-    of_command (IsIndexOf schema name) text (record p { statement = written.CreateIndex def }) (create_index schema def) c (λ k. index_alone schema name def k makes.0 makes.1) whole h none
-of_indexing schema name text p written.Empty c makes whole none h = absurd makes
-of_indexing schema name text p (written.Select x1) c makes whole none h = absurd makes
-of_indexing schema name text p (written.Insert x1 x2 x3 x4 x5 x6) c makes whole none h = absurd makes
-of_indexing schema name text p (written.Update x1 x2 x3 x4) c makes whole none h = absurd makes
-of_indexing schema name text p (written.Delete x1 x2 x3) c makes whole none h = absurd makes
-of_indexing schema name text p (written.Pragma x1 x2) c makes whole none h = absurd makes
-of_indexing schema name text p (written.CreateTable x1) c makes whole none h = absurd makes
-of_indexing schema name text p (written.CreateView x1 x2 x3 x4) c makes whole none h = absurd makes
-of_indexing schema name text p (written.DropTable x1 x2) c makes whole none h = absurd makes
-of_indexing schema name text p (written.DropIndex x1 x2) c makes whole none h = absurd makes
-of_indexing schema name text p (written.DropView x1 x2) c makes whole none h = absurd makes
-of_indexing schema name text p written.Begin c makes whole none h = absurd makes
-of_indexing schema name text p written.Commit c makes whole none h = absurd makes
-of_indexing schema name text p written.Rollback c makes whole none h = absurd makes
-of_indexing schema name text p (written.Savepoint x1) c makes whole none h = absurd makes
-of_indexing schema name text p (written.Release x1) c makes whole none h = absurd makes
-of_indexing schema name text p (written.RollbackTo x1) c makes whole none h = absurd makes
+of_making schema text p s c (def, is, missing) whole h =
+    of_command (λ k. k ≡ CreateTable) text (record p { statement = written.CreateTable def; formats = [] }) (create_table schema p.formats def) c (λ k. new_alone schema p.formats def k missing) whole
+    (subst (λ s. compiled_of schema (record p { statement = s }) ≡ Ok c) is h) refl
+
+of_indexing : (schema : Schema) (name text : List ℕ) (p : Parsed) (s : Statement) (c : Compiled) → Indexes name s → slice_range text p.start p.end ≡ text → p.formats ≡ [] → compiled_of schema (record p { statement = s }) ≡ Ok c
+    → Means (IsIndexOf schema name) text c
+unfolding planned meaning returning command timed
+of_indexing schema name text p s c (def, is, missing, on) whole none h =
+    of_command (IsIndexOf schema name) text (record p { statement = written.CreateIndex def }) (create_index schema def) c (λ k. index_alone schema name def k missing on) whole
+    (subst (λ s. compiled_of schema (record p { statement = s }) ≡ Ok c) is h) none
 
 compiled_making : (schema : Schema) (text : List ℕ) (c : Compiled) → Reads Makes text (first text) → compiled schema text ≡ Ok c → Means (λ k. k ≡ CreateTable) text c
 unfolding compiled
 compiled_making schema text c = go (first text)
   where
-    go : (r : Result Parsed CompileError) → Reads Makes text r → and_then r (λ p. and_then (planned schema p) (λ plan. Ok (with_command p plan))) ≡ Ok c → Means (λ k. k ≡ CreateTable) text c
+    go : (r : Result Parsed CompileError) → Reads Makes text r → and_then r (compiled_of schema) ≡ Ok c → Means (λ k. k ≡ CreateTable) text c
     go (Ok p) is h = of_making schema text p p.statement c is.0 is.1 h
     go (Err e) is h = absurd is
 
@@ -180,7 +150,7 @@ compiled_indexing : (schema : Schema) (name text : List ℕ) (c : Compiled) → 
 unfolding compiled
 compiled_indexing schema name text c = go (first text)
   where
-    go : (r : Result Parsed CompileError) → Reads (Indexes name) text r → untimed r ≡ [] → and_then r (λ p. and_then (planned schema p) (λ plan. Ok (with_command p plan))) ≡ Ok c → Means (IsIndexOf schema name) text c
+    go : (r : Result Parsed CompileError) → Reads (Indexes name) text r → untimed r ≡ [] → and_then r (compiled_of schema) ≡ Ok c → Means (IsIndexOf schema name) text c
     go (Ok p) is none h = of_indexing schema name text p p.statement c is.0 is.1 none h
     go (Err e) is none h = absurd is
 
@@ -218,9 +188,9 @@ indexing_means schema name text c is none h = elim (understood_so schema text c 
 
 -- It puts down what is given here, in a table of this name, and nothing else. The parameters end at a place.
 abbrev pub PutsDown : Table → Source → ℕ → Statement → Type 0
-PutsDown table source base (written.Insert conflict.Abort name columns rows [] []) =
-    (name ≡ table.name) × ((schema : Schema) (tree : ℕ) → new_rows schema (record table { tree = tree }) base columns rows ≡ Ok source)
-PutsDown table source base _ = ⊥
+PutsDown table source base s =
+    (columns : List Name) × (rows : Rows) × (s ≡ written.Insert conflict.Abort table.name columns rows [] [])
+    × ((schema : Schema) (tree : ℕ) → new_rows schema (record table { tree = tree }) base columns rows ≡ Ok source)
 
 abbrev pub IsPutting : Table → Source → Result Parsed CompileError → Type 0
 IsPutting table source (Ok p) = PutsDown table source (small p.names + small []) p.statement × (p.formats ≡ [])
@@ -240,37 +210,15 @@ module _ (schema : Schema) (table : Table) (at tree : ℕ) (source : Source) (un
   unfolding insert
   inserted_in base columns rows is = rw (named, found, is) refl
 
-  of_putting : (p : Parsed) (s : Statement) → PutsDown table source (small p.names + small []) s → p.formats ≡ []
-      → IsInsert at source (and_then (planned schema (record p { statement = s })) (λ plan. Ok (with_command (record p { statement = s }) plan)))
+  of_putting : (p : Parsed) (s : Statement) → PutsDown table source (small p.names + small []) s → p.formats ≡ [] → IsInsert at source (compiled_of schema (record p { statement = s }))
   unfolding planned meaning returning command timed shows insert_or_abort
-  of_putting p (written.Insert conflict.Abort name columns rows [] []) puts none = rw (puts.0, none, no_formats, inserted_in (small p.names + small []) columns rows (puts.1 schema tree)) (refl, (refl, refl))
-  of_putting p (written.Insert conflict.Abort name columns rows (x ∷ xs) shown) puts none = absurd puts
-  of_putting p (written.Insert conflict.Abort name columns rows [] (x ∷ xs)) puts none = absurd puts
-  of_putting p (written.Insert conflict.Ignore name columns rows clauses shown) puts none = absurd puts
-  of_putting p (written.Insert conflict.Replace name columns rows clauses shown) puts none = absurd puts
-  of_putting p written.Empty puts none = absurd puts
-  of_putting p (written.Select x1) puts none = absurd puts
-  of_putting p (written.Update x1 x2 x3 x4) puts none = absurd puts
-  of_putting p (written.Delete x1 x2 x3) puts none = absurd puts
-  of_putting p (written.Pragma x1 x2) puts none = absurd puts
-  of_putting p (written.CreateTable x1) puts none = absurd puts
-  of_putting p (written.CreateIndex x1) puts none = absurd puts
-  of_putting p (written.CreateView x1 x2 x3 x4) puts none = absurd puts
-  of_putting p (written.DropTable x1 x2) puts none = absurd puts
-  of_putting p (written.DropIndex x1 x2) puts none = absurd puts
-  of_putting p (written.DropView x1 x2) puts none = absurd puts
-  of_putting p written.Begin puts none = absurd puts
-  of_putting p written.Commit puts none = absurd puts
-  of_putting p written.Rollback puts none = absurd puts
-  of_putting p (written.Savepoint x1) puts none = absurd puts
-  of_putting p (written.Release x1) puts none = absurd puts
-  of_putting p (written.RollbackTo x1) puts none = absurd puts
+  of_putting p s (columns, rows, is, puts) none = rw (is, none, no_formats, inserted_in (small p.names + small []) columns rows (puts schema tree)) (refl, (refl, refl))
 
   compiled_putting : (text : List ℕ) → IsPutting table source (first text) → IsInsert at source (compiled schema text)
   unfolding compiled
   compiled_putting text = go (first text)
     where
-      go : (r : Result Parsed CompileError) → IsPutting table source r → IsInsert at source (and_then r (λ p. and_then (planned schema p) (λ plan. Ok (with_command p plan))))
+      go : (r : Result Parsed CompileError) → IsPutting table source r → IsInsert at source (and_then r (compiled_of schema))
       go (Ok p) is = of_putting p p.statement is.0 is.1
       go (Err e) is = absurd is
 

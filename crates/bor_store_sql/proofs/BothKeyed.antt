@@ -21,7 +21,7 @@ use Rattle.bor_store_sql.proofs.Finding.{Gives}
 use Rattle.bor_store_sql.proofs.FromTables.{interest_shown, statement_shown}
 use Rattle.bor_store_sql.proofs.Orders.{IsIdentifierBefore, IsInterestBefore, IsPlacedBefore, identifier_rows_rise, interest_rows_rise, placed_rise}
 use Rattle.bor_store_sql.proofs.Picking.{picked_rows}
-use Rattle.bor_store_sql.proofs.Selecting.{identifiers_stand, interests_stand, number_test, own_statements, place_params, rows_at}
+use Rattle.bor_store_sql.proofs.OfOne.{identifiers_stand, interests_stand, number_test, own_statements, place_params, rows_at}
 use Rattle.bor_store_sql.proofs.Selects.{int_test, text_test}
 
 pub statements_of_filing_found : (agent : List ℕ) (number : ℕ) → Gives ShowsLists statements_of_filing_text (Text agent ∷ Int (pos number) ∷ []) (λ r. map (λ p. statement_columns (bare p)) (in_filing number (placed_of agent r)))

@@ -24,7 +24,7 @@ use Rattle.bor_store_sql.specs.Shown.{HasLists, IsOfVersion, ShowsFirst, ShowsIn
 use Rattle.bor_store_sql.proofs.Finding.{Gives}
 use Rattle.bor_store_sql.proofs.Orders.{IsEarlier, Owned, filing_rows_are, owned, owned_rise, whole}
 use Rattle.bor_store_sql.proofs.Picking.{all_pass, picked_rows}
-use Rattle.bor_store_sql.proofs.Selecting.{lines_are, number_test, own_filings}
+use Rattle.bor_store_sql.proofs.OfOne.{lines_are, number_test, own_filings}
 use Rattle.bor_store_sql.proofs.Selects.{int_test, text_test}
 
 -- ---- either version

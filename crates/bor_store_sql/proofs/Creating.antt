@@ -35,7 +35,7 @@ use Rattle.bor_store_sql.specs.Moving.{MakesPeriod}
 use Rattle.bor_store_sql.specs.Ran.{MovesTo}
 use Rattle.bor_store_sql.specs.Shown.{Has, HasFirst}
 use Rattle.bor_store_sql.proofs.Inserts.{inserts, went, same_value, cast_int}
-use Rattle.bor_store_sql.proofs.Others.{with_register}
+use Rattle.bor_store_sql.proofs.Others.{one_changed}
 use Rattle.bor_store_sql.proofs.Moves.{Making, both_move, in_other_words}
 use Rattle.bor_store_sql.proofs.Tables.{one_more}
 
@@ -129,7 +129,7 @@ module _ (registrar : List ℕ) (day : ℤ) where
   register_put old new count has h =
       let x = register_columns first_register in
       let made = inserts insert_register_text (given_register day registrar) keep_schema 0 insert_register_terms 5 register_at x insert_register_is.0 insert_register_is.1 refl refl refl refl row_kept (λ new. refl) old new count has.schema h in
-      with_register no_contents old.now new.now made.sound made.schema_is has made.others _ (rw made.rows (one_more [] (old.now.trees 0) x has.register))
+      one_changed 0 old.now new.now made.others _ (rw made.rows (one_more [] (old.now.trees 0) x has.register)) no_contents made.sound made.schema_is has
 
   pub empty_is_stored : is_token registrar ≡ true → IsDay day → IsStored first_register
   empty_is_stored token is = record { ordered = tt; numbered = tt; formed = formed-empty_register registrar day token is; counted = All-nil _ }

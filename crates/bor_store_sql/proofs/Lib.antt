@@ -24,6 +24,7 @@ pub mod Rising
 pub mod Orders
 pub mod Picking
 pub mod FromTables
+pub mod OfOne
 pub mod Selecting
 pub mod Creating
 pub mod Created

@@ -1,5 +1,5 @@
 -- The rows of each table rise by its primary key.
-use Rattle.std.proofs.Common.{◌≡◌, ℕ, ℤ, pos, ◌+◌, ◌<◌, true, List, [], ◌∷◌, ◌++◌, map, refl, sym, ap, ap₂, ◌∙◌, arith, Less, Equal, Greater}
+use Rattle.std.proofs.Common.{◌≡◌, ℕ, ℤ, pos, ◌+◌, ◌<◌, true, List, [], ◌∷◌, ◌++◌, map, refl, sym, ap₂, ◌∙◌, arith, Less, Equal, Greater}
 use Rattle.std.specs.List.{AllByRecursion, flat_map}
 use Rattle.std.specs.Ordering.{is_lt, nat_cmp, ordering_then}
 use Rattle.std.specs.declared.cmp.Ordering.{Ordering}
@@ -14,7 +14,7 @@ use Rattle.sqlite_sql.specs.Query.{key_cmp}
 use Rattle.sqlite_value.specs.declared.keys.Key.{Key}
 use Rattle.sqlite_value.specs.Keys.{ascending}
 use Rattle.sqlite_value.proofs.OrderLemmas.{value_cmp-Text, value_cmp_total}
-use Rattle.sqlite_keyed.proofs.ListLemmas.{all-map}
+use Rattle.sqlite_keyed.proofs.ListLemmas.{all-map, map-map}
 use Rattle.bor_terms.specs.Texts.{is_below}
 use Rattle.bods_read.specs.declared.details.Identifier.{Identifier}
 use Rattle.bods_read.specs.declared.interest.Interest.{Interest}
@@ -86,13 +86,9 @@ owned (m ∷ ms) = map (owned_filing m.name) m.filings ++ owned ms
 abbrev pub whole : Owned → Row
 whole o = filing_columns o.agent o.filing
 
-same_rows : (name : List ℕ) (fs : List AcceptedFiling) → map (filing_columns name) fs ≡ map whole (map (owned_filing name) fs)
-same_rows name [] = refl
-same_rows name (f ∷ fs) = ap (λ l. filing_columns name f ∷ l) (same_rows name fs)
-
 pub filing_rows_are : (ms : List Member) → filing_rows ms ≡ map whole (owned ms)
 filing_rows_are [] = refl
-filing_rows_are (m ∷ ms) = ap₂ (λ x y. x ++ y) (same_rows m.name m.filings) (filing_rows_are ms) ∙ sym (map-append whole (map (owned_filing m.name) m.filings) (owned ms))
+filing_rows_are (m ∷ ms) = ap₂ (λ x y. x ++ y) (sym (map-map whole (owned_filing m.name) m.filings)) (filing_rows_are ms) ∙ sym (map-append whole (map (owned_filing m.name) m.filings) (owned ms))
 
 abbrev pub filing_keys : Owned → Row
 filing_keys o = Text o.agent ∷ Int (pos o.filing.number) ∷ []

@@ -1,16 +1,15 @@
 -- The rows that the queries on days of interests find, and the one on files.
-use Rattle.std.proofs.Common.{◌≡◌, ℕ, ℤ, pos, Bool, true, false, cond, ◌&&◌, Option, Some, None, List, [], ◌∷◌, ◌++◌, map, filter, refl, sym, ap, ap₂, ◌∙◌}
+use Rattle.std.proofs.Common.{◌≡◌, ℕ, ℤ, pos, Bool, true, cond, ◌&&◌, Option, Some, None, List, [], ◌∷◌, ◌++◌, map, filter, refl, sym, ap, ap₂, ◌∙◌}
 use Rattle.std.specs.Prelude.{is_some, ◌||◌}
 use Rattle.std.specs.List.{flat_map}
-use Rattle.std.proofs.Math.Bool.{and-true}
-use Rattle.std.proofs.lemmas.List.{map-append}
+use Rattle.std.proofs.Math.Bool.{and-true, and_comm}
 use Rattle.std.proofs.lemmas.List.Concat.{flat_map-append}
 use Rattle.sqlite.specs.Order.{Row}
 use Rattle.sqlite.specs.Query.{output}
 use Rattle.sqlite.specs.State.{State}
 use Rattle.sqlite.specs.Term.{Term}
 use Rattle.sqlite.specs.declared.types.Value.TheVariants.{Null, Int}
-use Rattle.sqlite_keyed.proofs.ListLemmas.{ascending-filter}
+use Rattle.sqlite_keyed.proofs.ListLemmas.{ascending-filter, filter_same}
 use Rattle.bor_register.specs.Register.{Register}
 use Rattle.bor_register.specs.declared.member.Member.{Member}
 use Rattle.bor_store_sql.specs.Texts.Queries.{all_periods_query, all_periods_text, periods_of_statement_query, periods_of_statement_text, rising, shows_rows, table_query}
@@ -27,9 +26,9 @@ use Rattle.bor_store_sql.proofs.Plain.{IsSelect}
 use Rattle.bor_store_sql.specs.Shown.{ShowsIn}
 use Rattle.bor_store_sql.proofs.Finding.{Gives, Shows, answers, has_now}
 use Rattle.bor_store_sql.proofs.Orders.{IsInterestBefore, interest_rows_rise}
-use Rattle.bor_store_sql.proofs.Picking.{all_pass, picked_rows}
+use Rattle.bor_store_sql.proofs.Picking.{all_pass, filter_both, picked_rows}
 use Rattle.bor_store_sql.proofs.Selects.{env, int_test, keeps, text_test}
-use Rattle.bor_store_sql.proofs.Selecting.{interests_stand, number_test, place_params, rows_at}
+use Rattle.bor_store_sql.proofs.OfOne.{interests_stand, number_test, periods_are, periods_of, place_params, rows_at}
 
 -- ---- the interests of which a day is said
 
@@ -53,30 +52,20 @@ pub listed : (is : List InterestRow) → map period_columns (flat_map period_row
 listed [] = refl
 listed (i ∷ is) = one_listed i (flat_map period_rows is) is (listed is)
 
-days_listed : (is : List InterestRow) → flat_map days_of is ≡ map period_columns (flat_map period_rows is)
-days_listed [] = refl
-days_listed (i ∷ is) = ap (λ l. days_of i ++ l) (days_listed is) ∙ sym (map-append period_columns (period_rows i) (flat_map period_rows is))
-
-all_listed : (ps : List Placed) → flat_map (λ (p : Placed). flat_map days_of (interest_rows p)) ps ≡ flat_map days_of (flat_map interest_rows ps)
+-- interest by interest, or statement by statement
+all_listed : (ps : List Placed) → flat_map periods_of ps ≡ flat_map period_rows (flat_map interest_rows ps)
 all_listed [] = refl
-all_listed (p ∷ ps) = ap (λ l. flat_map days_of (interest_rows p) ++ l) (all_listed ps) ∙ sym (flat_map-append days_of (interest_rows p) (flat_map interest_rows ps))
+all_listed (p ∷ ps) = ap (λ l. periods_of p ++ l) (all_listed ps) ∙ sym (flat_map-append period_rows (interest_rows p) (flat_map interest_rows ps))
 
 abbrev pub all_interests : List Member → List InterestRow
 all_interests ms = flat_map interest_rows (placed ms)
 
 pub table_is : (ms : List Member) → flat_map (λ (p : Placed). flat_map days_of (interest_rows p)) (placed ms) ≡ map day_columns (filter is_said (all_interests ms))
-table_is ms = all_listed (placed ms) ∙ days_listed (all_interests ms) ∙ listed (all_interests ms)
+table_is ms = sym (periods_are (placed ms)) ∙ ap (map period_columns) (all_listed (placed ms)) ∙ listed (all_interests ms)
 
 -- which of two tests comes first is the same
 in_turn : {X : Type 0} (p q : X → Bool) (xs : List X) → filter p (filter q xs) ≡ filter q (filter p xs)
-in_turn p q [] = refl
-in_turn p q (x ∷ xs) = go (p x) (q x) refl refl (in_turn p q xs)
-  where
-    go : (a b : Bool) → p x ≡ a → q x ≡ b → filter p (filter q xs) ≡ filter q (filter p xs) → filter p (filter q (x ∷ xs)) ≡ filter q (filter p (x ∷ xs))
-    go true true e f more = rw (e, f, e) (ap (λ l. x ∷ l) more)
-    go true false e f more = rw (e, f) more
-    go false true e f more = rw (e, f, e) more
-    go false false e f more = rw (e, f) more
+in_turn p q xs = sym (filter_both q p xs) ∙ filter_same (λ x. q x && p x) (λ x. p x && q x) (λ x. and_comm (q x) (p x)) xs ∙ filter_both p q xs
 
 module _ (r : Register) (old new : State) (shows : ShowsIn r old) (rows : List Row) where
   from_periods : (text : List ℕ) (params : Row) (names : List (List ℕ)) (tests project : List Term) (h : Shows text params old new rows) (p : InterestRow → Bool) → ((i : InterestRow) → row_passes tests params (day_columns i) ≡ p i)

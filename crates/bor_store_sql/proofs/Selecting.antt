@@ -1,14 +1,12 @@
 -- The rows that each query gives of a register that is shown.
-use Rattle.std.proofs.Common.{◌≡◌, ℕ, pos, ◌+◌, ◌<◌, Bool, true, false, ◌&&◌, ◌==◌, List, [], ◌∷◌, ◌++◌, map, filter, take, drop, reverse, Some, None, refl, sym, ap, ap₂, subst, ◌∙◌, arith}
-use Rattle.std.specs.List.{AllByRecursion, flat_map}
-use Rattle.std.specs.Ordering.{is_eq, int_cmp}
+use Rattle.std.proofs.Common.{◌≡◌, ℕ, pos, ◌<◌, Bool, true, false, ◌&&◌, ◌==◌, List, [], ◌∷◌, map, filter, take, drop, reverse, Some, None, refl, sym, ap, ap₂, subst, ◌∙◌}
+use Rattle.std.specs.List.{flat_map}
+use Rattle.std.specs.Ordering.{is_eq}
 use Rattle.std.specs.Str.{bytes_eq}
-use Rattle.std.proofs.lemmas.Int.{ints}
-use Rattle.std.proofs.lemmas.Bool.Decides.{nat_tests}
-use Rattle.std.proofs.lemmas.List.{map-append, reverse-append}
+use Rattle.std.proofs.lemmas.List.{take-map}
+use Rattle.bor_records.proofs.Backwards.{map_reverse}
 use Rattle.std.proofs.lemmas.Map.Text.{is_eq-slice_cmp}
 use Rattle.std.proofs.Math.Bool.{and-true}
-use Rattle.std.proofs.lemmas.List.Elements.{filter-append}
 use Rattle.sqlite.specs.declared.types.Value.TheVariants.{Null, Int, Text, Blob}
 use Rattle.sqlite.specs.Order.{Row}
 use Rattle.sqlite.specs.Tree.{IsAscending}
@@ -17,41 +15,32 @@ use Rattle.sqlite.specs.Collation.TheVariants.{Binary}
 use Rattle.sqlite_sql.specs.declared.ops.BinaryOp.TheVariants.{Compare}
 use Rattle.sqlite_sql.specs.declared.ops.CompareOp.TheVariants.{Eq}
 use Rattle.sqlite_value.proofs.OrderLemmas.{value_cmp-Blob}
-use Rattle.sqlite_keyed.proofs.ListLemmas.{map-map, filter-map, ascending-filter, filter_all, filter_none}
+use Rattle.sqlite_keyed.proofs.ListLemmas.{all_of, map-map, ascending-filter}
 use Rattle.bor_terms.specs.Texts.{is_same}
 use Rattle.bods_read.specs.declared.details.Details.{Details}
 use Rattle.bods_read.specs.declared.details.Details.TheVariants as details
-use Rattle.bods_read.specs.declared.details.Identifier.{Identifier}
-use Rattle.bods_read.specs.declared.interest.Interest.{Interest}
-use Rattle.bor_register.specs.declared.filing.AcceptedFiling.{AcceptedFiling}
-use Rattle.bor_register.specs.declared.member.Member.{Member}
-use Rattle.bor_register.specs.Register.{IsOrdered, filings_of}
+use Rattle.bor_register.specs.Register.{filings_of}
 use Rattle.bor_register.specs.Publication.{filing_shown}
 use Rattle.bor_store_sql.specs.Texts.Queries.{falling, all_register_text, all_register_query, all_agents_text, all_agents_query, all_statements_text, all_statements_query, all_interests_text, all_interests_query, all_identifiers_text, all_identifiers_query, more_statements_text, more_statements_query, agent_by_name_text, agent_by_name_query, agent_by_token_text, agent_by_token_query, filing_by_key_text, filing_by_key_query, line_by_key_text, line_by_key_query, line_by_number_text, line_by_number_query, same_bytes_text, same_bytes_query, filings_of_agent_text, filings_of_agent_query, last_filing_text, last_filing_query, last_of_series_text, last_of_series_query, statement_by_id_text, statement_by_id_query, statements_of_declaration_text, statements_of_declaration_query, statements_of_series_text, statements_of_series_query, statements_of_record_text, statements_of_record_query, statements_of_subject_text, statements_of_subject_query, statement_by_place_text, statement_by_place_query, identifiers_by_id_text, identifiers_by_id_query}
 use Rattle.bor_store_sql.proofs.OnTexts.QueryMeanings.{all_register_is, all_agents_is, all_statements_is, all_interests_is, all_identifiers_is, more_statements_is, agent_by_name_is, agent_by_token_is, filing_by_key_is, line_by_key_is, line_by_number_is, same_bytes_is, filings_of_agent_is, last_filing_is, last_of_series_is, statement_by_id_is, statements_of_declaration_is, statements_of_series_is, statements_of_record_is, statements_of_subject_is, statement_by_place_is, identifiers_by_id_is}
 use Rattle.bor_store_sql.specs.declared.rows.places.At.{At}
 use Rattle.bor_store_sql.specs.declared.rows.typed.Placed.{Placed}
-use Rattle.bor_store_sql.specs.declared.rows.typed.InterestRow.{InterestRow}
-use Rattle.bor_store_sql.specs.declared.rows.typed.IdentifierRow.{IdentifierRow}
-use Rattle.bor_store_sql.specs.Rows.Placed.{same_place, bare, filing_row, filing_lines, placed, placed_by, interest_rows, identifier_rows, interests_from, identifiers_from}
+use Rattle.bor_store_sql.specs.Rows.Placed.{same_place, bare, filing_row, placed, interest_rows, identifier_rows}
 use Rattle.bor_store_sql.specs.Rows.Encoding.{truth, register_columns, agent_columns, filing_rows, line_columns, shown_columns, statement_columns, interest_columns, identifier_columns}
 use Rattle.bor_store_sql.specs.Selected.{members_named, members_having, keyed, numbered, last, placed_of, in_declaration, in_series, identified, place_columns, in_record, names_subject, with_subject, standing_at, identified_by}
 use Rattle.bor_store_sql.specs.Changing.{row_passes}
 use Rattle.bor_store_sql.specs.Shown.{ShowsIn}
 use Rattle.bor_store_sql.proofs.Finding.{Gives, answers, has_now}
 use Rattle.bor_store_sql.proofs.FromTables.{from_agents, from_filings, from_statements, from_interests, from_identifiers, statement_shown, interest_shown}
-use Rattle.bor_store_sql.proofs.Members.{own_alone}
-use Rattle.bor_store_sql.proofs.Orders.{Owned, owned, owned_filing, owners, whole, filing_rows_are, int_same, IsLower}
-use Rattle.bor_store_sql.proofs.Picking.{all_pass, filter_both, picked_rows, picked_last, picked_later}
+use Rattle.bor_store_sql.proofs.OfOne.{own_owned, own_filings, own_statements, number_test, place_params}
+use Rattle.bor_store_sql.proofs.Orders.{Owned, owned, owned_filing, whole, filing_rows_are, int_same, IsLower}
+use Rattle.bor_store_sql.proofs.Picking.{all_pass, picked_rows, picked_last, picked_later}
 use Rattle.bor_store_sql.proofs.Rowids.{lower_id}
-use Rattle.bor_store_sql.proofs.Rising.{filings_rise, statements_rise, owned_by}
+use Rattle.bor_store_sql.proofs.Rising.{filings_rise, statements_rise}
 use Rattle.bor_store_sql.proofs.Selects.{text_test, int_test}
 use Rattle.bor_store_sql.proofs.StoredMembers.{numbered_of}
 
 -- ---- tests of columns
-
-pub number_test : (m n : ℕ) → is_eq (int_cmp (pos m) (pos n)) ≡ (m == n)
-number_test m n = grind (arith, ints, nat_tests)
 
 as_truth : (b : Bool) → from_truth (Some b) ≡ truth b
 as_truth true = refl
@@ -76,79 +65,10 @@ subject_test agent declaration rec q = go q.statement.details
     go (details.Relationship None party interests) = ap₂ (λ x y. x && y) (text_test q.at.agent agent) (ap₂ (λ x y. x && y) (text_test q.statement.declaration declaration) (and-true _ ∙ null_test rec))
     go (details.Relationship (Some subject) party interests) = ap₂ (λ x y. x && y) (text_test q.at.agent agent) (ap₂ (λ x y. x && y) (text_test q.statement.declaration declaration) (and-true _ ∙ text_test subject rec))
 
--- ---- those of one agent
-
-module _ (agent : List ℕ) (ms : List Member) (names : IsOrdered ms) where
-  own_owned : filter (λ (o : Owned). is_same o.agent agent) (owned ms) ≡ map (owned_filing agent) (filings_of agent ms)
-  own_owned = own_alone (λ name fs. map (owned_filing name) fs) owned refl (λ m rest. refl) (λ (o : Owned). o.agent) owners (λ name. refl) agent ms names
-
-  pub own_filings : (q : AcceptedFiling → Bool) (out : Owned → Row) → map out (filter (λ (o : Owned). is_same o.agent agent && q o.filing) (owned ms)) ≡ map (λ f. out (owned_filing agent f)) (filter q (filings_of agent ms))
-  own_filings q out =
-      ap (map out) (filter_both (λ (o : Owned). is_same o.agent agent) (λ (o : Owned). q o.filing) (owned ms) ∙ ap (filter (λ (o : Owned). q o.filing)) own_owned ∙ filter-map (λ (o : Owned). q o.filing) (owned_filing agent) (filings_of agent ms))
-      ∙ map-map out (owned_filing agent) (filter q (filings_of agent ms))
-
-  own_placed : filter (λ (p : Placed). is_same p.at.agent agent) (placed ms) ≡ placed_by agent (filings_of agent ms)
-  own_placed = own_alone placed_by placed refl (λ m rest. refl) (λ (p : Placed). p.at.agent) owned_by (λ name. refl) agent ms names
-
-  pub own_statements : (q : Placed → Bool) → filter (λ (p : Placed). is_same p.at.agent agent && q p) (placed ms) ≡ filter q (placed_by agent (filings_of agent ms))
-  own_statements q = filter_both (λ (p : Placed). is_same p.at.agent agent) q (placed ms) ∙ ap (filter q) own_placed
-
-lines_of : (name : List ℕ) (fs : List AcceptedFiling) → map (λ (o : Owned). line_columns (filing_row o.agent o.filing)) (map (owned_filing name) fs) ≡ map line_columns (map (filing_row name) fs)
-lines_of name [] = refl
-lines_of name (f ∷ fs) = ap (λ l. line_columns (filing_row name f) ∷ l) (lines_of name fs)
-
-pub lines_are : (ms : List Member) → map (λ (o : Owned). line_columns (filing_row o.agent o.filing)) (owned ms) ≡ map line_columns (filing_lines ms)
-lines_are [] = refl
-lines_are (m ∷ ms) =
-    map-append (λ (o : Owned). line_columns (filing_row o.agent o.filing)) (map (owned_filing m.name) m.filings) (owned ms) ∙ ap₂ (λ x y. x ++ y) (lines_of m.name m.filings) (lines_are ms)
-    ∙ sym (map-append line_columns (map (filing_row m.name) m.filings) (filing_lines ms))
-
--- ---- those of one statement
-
-abbrev pub place_params : At → Row
-place_params at = Text at.agent ∷ Int (pos at.filing) ∷ Int (pos at.place) ∷ []
-
-module _ {X : Type 0} (at_of : X → At) (t : At → Bool) (rows : Placed → List X) (own : (p : Placed) → AllByRecursion (λ x. at_of x ≡ p.at) (rows p)) where
-  passed : (at : At) (b : Bool) → t at ≡ b → (xs : List X) → AllByRecursion (λ x. at_of x ≡ at) xs → AllByRecursion (λ x. t (at_of x) ≡ b) xs
-  passed at b e [] h = tt
-  passed at b e (x ∷ xs) h = (ap t h.0 ∙ e, passed at b e xs h.1)
-
-  pub rows_at : (ps : List Placed) → filter (λ x. t (at_of x)) (flat_map rows ps) ≡ flat_map rows (filter (λ (p : Placed). t p.at) ps)
-  rows_at [] = refl
-  rows_at (p ∷ ps) = filter-append (λ x. t (at_of x)) (rows p) (flat_map rows ps) ∙ go (t p.at) refl (rows_at ps)
-    where
-      go : (b : Bool) → t p.at ≡ b → filter (λ x. t (at_of x)) (flat_map rows ps) ≡ flat_map rows (filter (λ (p : Placed). t p.at) ps)
-          → filter (λ x. t (at_of x)) (rows p) ++ filter (λ x. t (at_of x)) (flat_map rows ps) ≡ flat_map rows (filter (λ (p : Placed). t p.at) (p ∷ ps))
-      go true e more = rw e (ap₂ (λ x y. x ++ y) (filter_all (λ x. t (at_of x)) (rows p) (passed p.at true e (rows p) (own p))) more)
-      go false e more = rw e (ap₂ (λ x y. x ++ y) (filter_none (λ x. t (at_of x)) (rows p) (passed p.at false e (rows p) (own p))) more)
-
-pub interests_stand : (at : At) (n : ℕ) (is : List Interest) → AllByRecursion (λ (i : InterestRow). i.at ≡ at) (interests_from at n is)
-interests_stand at n [] = tt
-interests_stand at n (i ∷ is) = (refl, interests_stand at (n + 1) is)
-
-pub identifiers_stand : (at : At) (n : ℕ) (is : List Identifier) → AllByRecursion (λ (i : IdentifierRow). i.at ≡ at) (identifiers_from at n is)
-identifiers_stand at n [] = tt
-identifiers_stand at n (i ∷ is) = (refl, identifiers_stand at (n + 1) is)
-
--- ---- whether there are more
-
--- each shows a one
-all_one : (ps : List Placed) → AllByRecursion (λ (p : Placed). Int (pos 1) ∷ [] ≡ Int (pos 1) ∷ []) ps
-all_one [] = tt
-all_one (p ∷ ps) = (refl, all_one ps)
-
 -- ---- the last one
 
 last_of_map : {X Y : Type 0} (f : X → Y) (xs : List X) → take 1 (reverse (map f xs)) ≡ map f (take 1 (reverse xs))
-last_of_map f xs = ap (take 1) (turned f xs) ∙ first f (reverse xs)
-  where
-    turned : {X Y : Type 0} (f : X → Y) (xs : List X) → reverse (map f xs) ≡ map f (reverse xs)
-    turned f [] = refl
-    turned f (x ∷ xs) = reverse-append (f x ∷ []) (map f xs) ∙ ap (λ l. l ++ f x ∷ []) (turned f xs) ∙ sym (map-append f (reverse xs) (x ∷ [])) ∙ ap (map f) (sym (reverse-append (x ∷ []) xs))
-
-    first : {X Y : Type 0} (f : X → Y) (xs : List X) → take 1 (map f xs) ≡ map f (take 1 xs)
-    first f [] = refl
-    first f (x ∷ xs) = refl
+last_of_map f xs = ap (take 1) (sym (map_reverse f xs)) ∙ take-map f 1 (reverse xs)
 
 abbrev IsLaterNumber : Owned → Owned → Type 0
 IsLaterNumber a b = a.filing.number < b.filing.number
@@ -197,7 +117,7 @@ more_statements_found count r old new rows shows h =
     let out : Placed → Row = λ p. Int (pos 1) ∷ [] in
     picked_later 8 refl more_statements_query.filter (Int (pos count) ∷ []) more_statements_query.project [] (λ id x. refl) (λ p. statement_columns (bare p)) out (λ p. true) (λ p. refl) (placed r.members) old.now.trees
     (map (λ p. statement_columns (bare p)) (placed r.members)) rows refl (has_now r old new shows h.0).statements 0 count refl (λ id x. refl) (λ p. refl)
-    (answers r old new shows h.0 more_statements_text (Int (pos count) ∷ []) more_statements_query _ more_statements_is.asks rows h.1) (Int (pos 1) ∷ []) (all_one (filter (λ p. true) (placed r.members)))
+    (answers r old new shows h.0 more_statements_text (Int (pos count) ∷ []) more_statements_query _ more_statements_is.asks rows h.1) (Int (pos 1) ∷ []) (all_of (λ p. out p ≡ Int (pos 1) ∷ []) (λ p. refl) (filter (λ p. true) (placed r.members)))
     ∙ ap (λ l. map out (take 1 (drop count l))) (all_pass (placed r.members))
 
 pub agent_by_name_found : (name : List ℕ) → Gives ShowsIn agent_by_name_text (Text name ∷ []) (λ r. map agent_columns (members_named name r.members))

@@ -8,119 +8,119 @@ use Rattle.bor_store_sql.specs.Texts.Queries.{all_register_text, all_register_co
 
 pub all_register_is : IsSelect all_register_text all_register_command
 unfolding understood everything
-all_register_is = record { reads = refl; asks = (refl, (refl, refl), refl) }
+all_register_is = record { reads = (_, refl); asks = (refl, (refl, refl), refl) }
 
 pub all_agents_is : IsSelect all_agents_text all_agents_command
 unfolding understood everything
-all_agents_is = record { reads = refl; asks = (refl, (refl, refl), refl) }
+all_agents_is = record { reads = (_, refl); asks = (refl, (refl, refl), refl) }
 
 pub all_filings_is : IsSelect all_filings_text all_filings_command
 unfolding understood everything
-all_filings_is = record { reads = refl; asks = (refl, (refl, refl), refl) }
+all_filings_is = record { reads = (_, refl); asks = (refl, (refl, refl), refl) }
 
 pub all_statements_is : IsSelect all_statements_text all_statements_command
 unfolding understood everything
-all_statements_is = record { reads = refl; asks = (refl, (refl, refl), refl) }
+all_statements_is = record { reads = (_, refl); asks = (refl, (refl, refl), refl) }
 
 pub all_interests_is : IsSelect all_interests_text all_interests_command
 unfolding understood everything
-all_interests_is = record { reads = refl; asks = (refl, (refl, refl), refl) }
+all_interests_is = record { reads = (_, refl); asks = (refl, (refl, refl), refl) }
 
 pub all_identifiers_is : IsSelect all_identifiers_text all_identifiers_command
 unfolding understood everything
-all_identifiers_is = record { reads = refl; asks = (refl, (refl, refl), refl) }
+all_identifiers_is = record { reads = (_, refl); asks = (refl, (refl, refl), refl) }
 
 pub agent_by_name_is : IsSelect agent_by_name_text agent_by_name_command
 unfolding understood everything
-agent_by_name_is = record { reads = refl; asks = (refl, (refl, refl), refl) }
+agent_by_name_is = record { reads = (_, refl); asks = (refl, (refl, refl), refl) }
 
 pub agent_by_token_is : IsSelect agent_by_token_text agent_by_token_command
 unfolding understood everything
-agent_by_token_is = record { reads = refl; asks = (refl, (refl, refl), refl) }
+agent_by_token_is = record { reads = (_, refl); asks = (refl, (refl, refl), refl) }
 
 pub filing_by_key_is : IsSelect filing_by_key_text filing_by_key_command
 unfolding understood everything
-filing_by_key_is = record { reads = refl; asks = (refl, (refl, refl), refl) }
+filing_by_key_is = record { reads = (_, refl); asks = (refl, (refl, refl), refl) }
 
 pub line_by_key_is : IsSelect line_by_key_text line_by_key_command
 unfolding understood everything
-line_by_key_is = record { reads = refl; asks = (refl, (refl, refl), refl) }
+line_by_key_is = record { reads = (_, refl); asks = (refl, (refl, refl), refl) }
 
 pub line_by_number_is : IsSelect line_by_number_text line_by_number_command
 unfolding understood everything
-line_by_number_is = record { reads = refl; asks = (refl, (refl, refl), refl) }
+line_by_number_is = record { reads = (_, refl); asks = (refl, (refl, refl), refl) }
 
 pub same_bytes_is : IsSelect same_bytes_text same_bytes_command
 unfolding understood everything
-same_bytes_is = record { reads = refl; asks = (refl, (refl, refl), refl) }
+same_bytes_is = record { reads = (_, refl); asks = (refl, (refl, refl), refl) }
 
 pub filings_of_agent_is : IsSelect filings_of_agent_text filings_of_agent_command
 unfolding understood everything
-filings_of_agent_is = record { reads = refl; asks = (refl, (refl, refl), refl) }
+filings_of_agent_is = record { reads = (_, refl); asks = (refl, (refl, refl), refl) }
 
 pub last_filing_is : IsSelect last_filing_text last_filing_command
 unfolding understood everything
-last_filing_is = record { reads = refl; asks = (refl, (refl, refl), refl) }
+last_filing_is = record { reads = (_, refl); asks = (refl, (refl, refl), refl) }
 
 pub last_of_series_is : IsSelect last_of_series_text last_of_series_command
 unfolding understood everything
-last_of_series_is = record { reads = refl; asks = (refl, (refl, refl), refl) }
+last_of_series_is = record { reads = (_, refl); asks = (refl, (refl, refl), refl) }
 
 pub statement_by_id_is : IsSelect statement_by_id_text statement_by_id_command
 unfolding understood everything
-statement_by_id_is = record { reads = refl; asks = (refl, (refl, refl), refl) }
+statement_by_id_is = record { reads = (_, refl); asks = (refl, (refl, refl), refl) }
 
 pub statements_of_filing_is : IsSelect statements_of_filing_text statements_of_filing_command
 unfolding understood everything
-statements_of_filing_is = record { reads = refl; asks = (refl, (refl, refl), refl) }
+statements_of_filing_is = record { reads = (_, refl); asks = (refl, (refl, refl), refl) }
 
 pub statements_of_declaration_is : IsSelect statements_of_declaration_text statements_of_declaration_command
 unfolding understood everything
-statements_of_declaration_is = record { reads = refl; asks = (refl, (refl, refl), refl) }
+statements_of_declaration_is = record { reads = (_, refl); asks = (refl, (refl, refl), refl) }
 
 pub interests_of_statement_is : IsSelect interests_of_statement_text interests_of_statement_command
 unfolding understood everything
-interests_of_statement_is = record { reads = refl; asks = (refl, (refl, refl), refl) }
+interests_of_statement_is = record { reads = (_, refl); asks = (refl, (refl, refl), refl) }
 
 pub identifiers_of_statement_is : IsSelect identifiers_of_statement_text identifiers_of_statement_command
 unfolding understood everything
-identifiers_of_statement_is = record { reads = refl; asks = (refl, (refl, refl), refl) }
+identifiers_of_statement_is = record { reads = (_, refl); asks = (refl, (refl, refl), refl) }
 
 pub more_statements_is : IsSelect more_statements_text more_statements_command
 unfolding understood everything
-more_statements_is = record { reads = refl; asks = (refl, (refl, refl), refl) }
+more_statements_is = record { reads = (_, refl); asks = (refl, (refl, refl), refl) }
 
 pub statements_of_series_is : IsSelect statements_of_series_text statements_of_series_command
 unfolding understood everything
-statements_of_series_is = record { reads = refl; asks = (refl, (refl, refl), refl) }
+statements_of_series_is = record { reads = (_, refl); asks = (refl, (refl, refl), refl) }
 
 pub statements_of_record_is : IsSelect statements_of_record_text statements_of_record_command
 unfolding understood everything
-statements_of_record_is = record { reads = refl; asks = (refl, (refl, refl), refl) }
+statements_of_record_is = record { reads = (_, refl); asks = (refl, (refl, refl), refl) }
 
 pub statements_of_subject_is : IsSelect statements_of_subject_text statements_of_subject_command
 unfolding understood everything
-statements_of_subject_is = record { reads = refl; asks = (refl, (refl, refl), refl) }
+statements_of_subject_is = record { reads = (_, refl); asks = (refl, (refl, refl), refl) }
 
 pub statement_by_place_is : IsSelect statement_by_place_text statement_by_place_command
 unfolding understood everything
-statement_by_place_is = record { reads = refl; asks = (refl, (refl, refl), refl) }
+statement_by_place_is = record { reads = (_, refl); asks = (refl, (refl, refl), refl) }
 
 pub identifiers_by_id_is : IsSelect identifiers_by_id_text identifiers_by_id_command
 unfolding understood everything
-identifiers_by_id_is = record { reads = refl; asks = (refl, (refl, refl), refl) }
+identifiers_by_id_is = record { reads = (_, refl); asks = (refl, (refl, refl), refl) }
 
 pub all_periods_is : IsSelect all_periods_text all_periods_command
 unfolding understood everything
-all_periods_is = record { reads = refl; asks = (refl, (refl, refl), refl) }
+all_periods_is = record { reads = (_, refl); asks = (refl, (refl, refl), refl) }
 
 pub periods_of_statement_is : IsSelect periods_of_statement_text periods_of_statement_command
 unfolding understood everything
-periods_of_statement_is = record { reads = refl; asks = (refl, (refl, refl), refl) }
+periods_of_statement_is = record { reads = (_, refl); asks = (refl, (refl, refl), refl) }
 
 pub file_by_number_is : IsSelect file_by_number_text file_by_number_command
 unfolding understood everything
-file_by_number_is = record { reads = refl; asks = (refl, (refl, refl), refl) }
+file_by_number_is = record { reads = (_, refl); asks = (refl, (refl, refl), refl) }
 
 -- ---- those that are asked of version 1 too
 

@@ -15,31 +15,31 @@ use Rattle.bor_store_sql.proofs.AnySchema.{IsPutting, Indexes, Makes, Reads, unt
 
 pub register_reads : Reads Makes REGISTER_TABLE.now (first REGISTER_TABLE.now)
 unfolding everything
-register_reads = (refl, refl)
+register_reads = ((_, refl, refl), refl)
 
 pub agent_reads : Reads Makes AGENT_TABLE.now (first AGENT_TABLE.now)
 unfolding everything
-agent_reads = (refl, refl)
+agent_reads = ((_, refl, refl), refl)
 
 pub filing_reads : Reads Makes FILING_TABLE.now (first FILING_TABLE.now)
 unfolding everything
-filing_reads = (refl, refl)
+filing_reads = ((_, refl, refl), refl)
 
 pub statement_reads : Reads Makes STATEMENT_TABLE.now (first STATEMENT_TABLE.now)
 unfolding everything
-statement_reads = (refl, refl)
+statement_reads = ((_, refl, refl), refl)
 
 pub interest_reads : Reads Makes INTEREST_TABLE.now (first INTEREST_TABLE.now)
 unfolding everything
-interest_reads = (refl, refl)
+interest_reads = ((_, refl, refl), refl)
 
 pub identifier_reads : Reads Makes IDENTIFIER_TABLE.now (first IDENTIFIER_TABLE.now)
 unfolding everything
-identifier_reads = (refl, refl)
+identifier_reads = ((_, refl, refl), refl)
 
 pub period_reads : Reads Makes PERIOD_TABLE.now (first PERIOD_TABLE.now)
 unfolding everything
-period_reads = (refl, refl)
+period_reads = ((_, refl, refl), refl)
 
 -- the table has AUTOINCREMENT
 abbrev pub counted_in : Result Table CompileError → Bool
@@ -58,20 +58,20 @@ pub record IsIndexText (text : List ℕ) (table : Table) (index : Index) : Type 
 
 pub record_index_text : IsIndexText RECORD_INDEX.now statement_table record_index
 unfolding everything
-record_index_text = record { reads = ((refl, refl), refl); untimed = refl; defined = λ tree. refl }
+record_index_text = record { reads = ((_, refl, refl, refl), refl); untimed = refl; defined = λ tree. refl }
 
 pub subject_index_text : IsIndexText SUBJECT_INDEX.now statement_table subject_index
 unfolding everything
-subject_index_text = record { reads = ((refl, refl), refl); untimed = refl; defined = λ tree. refl }
+subject_index_text = record { reads = ((_, refl, refl, refl), refl); untimed = refl; defined = λ tree. refl }
 
 pub identifier_index_text : IsIndexText IDENTIFIER_INDEX.now identifier_table identifier_index
 unfolding everything
-identifier_index_text = record { reads = ((refl, refl), refl); untimed = refl; defined = λ tree. refl }
+identifier_index_text = record { reads = ((_, refl, refl, refl), refl); untimed = refl; defined = λ tree. refl }
 
 pub line_index_text : IsIndexText LINE_INDEX.now filing_table line_index
 unfolding everything
-line_index_text = record { reads = ((refl, refl), refl); untimed = refl; defined = λ tree. refl }
+line_index_text = record { reads = ((_, refl, refl, refl), refl); untimed = refl; defined = λ tree. refl }
 
 pub insert_register_reads : IsPutting register_table (Values insert_register_terms 5) (first insert_register_text)
 unfolding everything
-insert_register_reads = ((refl, λ schema tree. refl), refl)
+insert_register_reads = ((_, _, refl, λ schema tree. refl), refl)
