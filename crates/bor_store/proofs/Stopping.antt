@@ -8,7 +8,7 @@ use Rattle.bor_register.specs.Register.{Register}
 use Rattle.bor_store_sql.specs.Changing.{all_periods}
 use Rattle.bor_store_sql.specs.Shown.{IsClean, LeavesAtMost, ShowsFirst, ShowsIn, ShowsLists, Stands}
 use Rattle.bor_store_sql.specs.declared.rows.typed.PeriodRow.{PeriodRow}
-use Rattle.bor_store_sql.proofs.BothReads.{of_first}
+use Rattle.bor_store_sql.proofs.Finding.{of_first}
 use Rattle.bor_store_sql.specs.Found.{ReadsOnly}
 use Rattle.bor_store.specs.Tables.{of_tables}
 use Rattle.bor_store.specs.Migrating.{FilesSay}

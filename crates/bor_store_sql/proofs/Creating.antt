@@ -25,7 +25,8 @@ use Rattle.bor_register.proofs.Forms.{formed-empty_register}
 use Rattle.bor_register.specs.Register.{Register, empty_register}
 use Rattle.bor_store_sql.specs.Texts.Meanings.{MakesTable, MakesIndex}
 use Rattle.bor_store_sql.specs.Texts.Tables.{first_schema, keep_schema, register_at, register_table}
-use Rattle.bor_store_sql.specs.Texts.Changes.{insert_register_text, insert_register_terms}
+use Rattle.bor_store_sql.specs.Texts.Changes.{insert_register_terms}
+use Rattle.bor_store_sql.specs.declared.texts.changes.TheConstants.{INSERT_REGISTER}
 use Rattle.bor_store_sql.proofs.OnTexts.ChangeMeanings.{insert_register_is}
 use Rattle.bor_store_sql.specs.Rows.Encoding.{contents, register_columns, tables_version}
 use Rattle.bor_store_sql.specs.Rows.Stored.{IsStored}
@@ -125,10 +126,10 @@ module _ (registrar : List ℕ) (day : ℤ) where
   pub row_kept : cast_all register_table.columns (register_columns first_register) ≡ register_columns first_register
   row_kept = rw (cast_int (pos 1), cast_int tables_version, cast_int day) refl
 
-  pub register_put : (old new : State) (count : ℕ) → Has no_contents old.now → Executes insert_register_text (given_register day registrar) old new (Ok count) → Has (contents first_register) new.now
+  pub register_put : (old new : State) (count : ℕ) → Has no_contents old.now → Executes INSERT_REGISTER.now (given_register day registrar) old new (Ok count) → Has (contents first_register) new.now
   register_put old new count has h =
       let x = register_columns first_register in
-      let made = inserts insert_register_text (given_register day registrar) keep_schema 0 insert_register_terms 5 register_at x insert_register_is.0 insert_register_is.1 refl refl refl refl row_kept (λ new. refl) old new count has.schema h in
+      let made = inserts INSERT_REGISTER.now (given_register day registrar) keep_schema 0 insert_register_terms 5 register_at x insert_register_is.0 insert_register_is.1 refl refl refl refl row_kept (λ new. refl) old new count has.schema h in
       one_changed 0 old.now new.now made.others _ (rw made.rows (one_more [] (old.now.trees 0) x has.register)) no_contents made.sound made.schema_is has
 
   pub empty_is_stored : is_token registrar ≡ true → IsDay day → IsStored first_register

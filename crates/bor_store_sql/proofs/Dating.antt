@@ -10,7 +10,8 @@ use Rattle.sqlite_rules.specs.Cast.{cast_row}
 use Rattle.sqlite_schema.specs.declared.schema.Keys.TheVariants.{Enforced}
 use Rattle.bor_register.specs.Register.{Register}
 use Rattle.bor_store_sql.specs.Texts.Tables.{keep_schema, register_at}
-use Rattle.bor_store_sql.specs.Texts.Changes.{equals_number, update_day_text, update_day_program}
+use Rattle.bor_store_sql.specs.Texts.Changes.{equals_number, update_day_program}
+use Rattle.bor_store_sql.specs.declared.texts.changes.TheConstants.{UPDATE_DAY}
 use Rattle.bor_store_sql.proofs.OnTexts.ChangeMeanings.{update_day_is}
 use Rattle.bor_terms.specs.Day.{IsDay}
 use Rattle.bor_store_sql.specs.Rows.Stored.{IsStored}
@@ -40,10 +41,10 @@ module _ (day : ℤ) where
   abbrev day_of : Row → Row
   day_of r = column r 0 ∷ column r 0 ∷ column r 1 ∷ column r 2 ∷ Int day ∷ column r 4 ∷ []
 
-  pub day_updated : Making update_day_text (Int day ∷ []) (ChangesContents (IsOneRegister day) (with_day day))
+  pub day_updated : Making UPDATE_DAY.now (Int day ∷ []) (ChangesContents (IsOneRegister day) (with_day day))
   day_updated old new count h t has one =
       let params = Int day ∷ [] in
-      let done = updates update_day_text params keep_schema 0 update_day_program register_at update_day_is.0 update_day_is.1 refl register_alone old new count has.schema h in
+      let done = updates UPDATE_DAY.now params keep_schema 0 update_day_program register_at update_day_is.0 update_day_is.1 refl register_alone old new count has.schema h in
       let w = done.2 in
       one_changed 0 old.now new.now w.others _
       (updated 0 refl one_tests params (is_the_one day) (λ id x. refl) day_terms day_of (λ s. cast_row register_at (drop 1 s)) (dated day)

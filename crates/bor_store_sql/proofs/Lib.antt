@@ -38,7 +38,6 @@ pub mod PutBeside
 pub mod Versioning
 pub mod PeriodReads
 pub mod BothReads
-pub mod BothKeyed
 pub mod Pairs
 pub mod Told
 pub mod Alone

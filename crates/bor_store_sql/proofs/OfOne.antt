@@ -1,17 +1,16 @@
 -- The rows of one agent, and those of one statement.
-use Rattle.std.proofs.Common.{◌≡◌, ℕ, ℤ, Option, Some, None, pos, ◌+◌, Bool, true, false, ◌&&◌, ◌==◌, List, [], ◌∷◌, ◌++◌, map, filter, refl, sym, ap, ap₂, ◌∙◌, arith}
+use Rattle.std.proofs.Common.{◌≡◌, ℕ, ℤ, Option, Some, None, pos, Bool, true, false, ◌&&◌, ◌==◌, List, [], ◌∷◌, ◌++◌, map, filter, refl, sym, ap, ap₂, ◌∙◌, arith}
 use Rattle.std.specs.List.{AllByRecursion, flat_map}
 use Rattle.std.specs.Ordering.{is_eq, int_cmp}
 use Rattle.std.proofs.lemmas.Int.{ints}
 use Rattle.std.proofs.lemmas.Bool.Decides.{nat_tests}
+use Rattle.std.proofs.Math.Bool.{and-true}
 use Rattle.std.proofs.lemmas.List.{map-append}
 use Rattle.std.proofs.lemmas.List.Elements.{filter-append}
 use Rattle.sqlite.specs.declared.types.Value.TheVariants.{Int, Text}
 use Rattle.sqlite.specs.Order.{Row}
 use Rattle.sqlite_keyed.proofs.ListLemmas.{all_weaker, all-flat_map, flat_map_same_on, map-map, map-flat_map, filter-map, filter_all, filter_none}
 use Rattle.bor_terms.specs.Texts.{is_same}
-use Rattle.bods_read.specs.declared.details.Identifier.{Identifier}
-use Rattle.bods_read.specs.declared.interest.Interest.{Interest}
 use Rattle.bor_register.specs.declared.filing.AcceptedFiling.{AcceptedFiling}
 use Rattle.bor_register.specs.declared.member.Member.{Member}
 use Rattle.bor_register.specs.Register.{IsOrdered, filings_of}
@@ -21,12 +20,14 @@ use Rattle.bor_store_sql.specs.declared.rows.typed.InterestRow.{InterestRow}
 use Rattle.bor_store_sql.specs.declared.rows.typed.IdentifierRow.{IdentifierRow}
 use Rattle.bor_store_sql.specs.declared.rows.typed.PeriodRow.{PeriodRow}
 use Rattle.bor_store_sql.specs.Changing.{days_of}
-use Rattle.bor_store_sql.specs.Rows.Placed.{filing_row, filing_lines, placed, placed_by, interest_rows, interests_from, identifiers_from, if_said, period_of, period_rows}
+use Rattle.bor_store_sql.specs.Rows.Placed.{same_place, filing_row, filing_lines, placed, placed_by, interest_rows, if_said, period_of, period_rows, identifier_rows}
 use Rattle.bor_store_sql.specs.Rows.Encoding.{line_columns, period_columns}
 use Rattle.bor_store_sql.proofs.Members.{own_alone}
 use Rattle.bor_store_sql.proofs.Orders.{Owned, owned, owned_filing, owners}
 use Rattle.bor_store_sql.proofs.Picking.{filter_both}
 use Rattle.bor_store_sql.proofs.Rising.{owned_by}
+use Rattle.bor_store_sql.proofs.Selects.{are_equal, text_test, int_test}
+use Rattle.bor_store_sql.proofs.OnRows.Each.{each_identifier, each_interest}
 
 pub number_test : (m n : ℕ) → is_eq (int_cmp (pos m) (pos n)) ≡ (m == n)
 number_test m n = grind (arith, ints, nat_tests)
@@ -62,6 +63,10 @@ lines_are (m ∷ ms) =
 abbrev pub place_params : At → Row
 place_params at = Text at.agent ∷ Int (pos at.filing) ∷ Int (pos at.place) ∷ []
 
+-- the first three columns are those of the place
+pub place_test : (a b : At) → (are_equal (Text a.agent) (Text b.agent) && (are_equal (Int (pos a.filing)) (Int (pos b.filing)) && (are_equal (Int (pos a.place)) (Int (pos b.place)) && true))) ≡ same_place a b
+place_test a b = ap₂ (λ x y. x && y) (text_test a.agent b.agent) (ap₂ (λ x y. x && y) (int_test (pos a.filing) (pos b.filing) ∙ number_test a.filing b.filing) (and-true _ ∙ int_test (pos a.place) (pos b.place) ∙ number_test a.place b.place))
+
 module _ {X : Type 0} (at_of : X → At) (t : At → Bool) (rows : Placed → List X) (own : (p : Placed) → AllByRecursion (λ x. at_of x ≡ p.at) (rows p)) where
   passed : (p : Placed) (b : Bool) → t p.at ≡ b → AllByRecursion (λ x. t (at_of x) ≡ b) (rows p)
   passed p b e = all_weaker (λ x. at_of x ≡ p.at) (λ x. t (at_of x) ≡ b) (λ x same. ap t same ∙ e) (rows p) (own p)
@@ -75,13 +80,11 @@ module _ {X : Type 0} (at_of : X → At) (t : At → Bool) (rows : Placed → Li
       go true e more = rw e (ap₂ (λ x y. x ++ y) (filter_all (λ x. t (at_of x)) (rows p) (passed p true e)) more)
       go false e more = rw e (ap₂ (λ x y. x ++ y) (filter_none (λ x. t (at_of x)) (rows p) (passed p false e)) more)
 
-pub interests_stand : (at : At) (n : ℕ) (is : List Interest) → AllByRecursion (λ (i : InterestRow). i.at ≡ at) (interests_from at n is)
-interests_stand at n [] = tt
-interests_stand at n (i ∷ is) = (refl, interests_stand at (n + 1) is)
+pub interests_stand : (p : Placed) → AllByRecursion (λ (i : InterestRow). i.at ≡ p.at) (interest_rows p)
+interests_stand p = each_interest (λ i. i.at ≡ p.at) p.at 1 _ (λ item i low. refl)
 
-pub identifiers_stand : (at : At) (n : ℕ) (is : List Identifier) → AllByRecursion (λ (i : IdentifierRow). i.at ≡ at) (identifiers_from at n is)
-identifiers_stand at n [] = tt
-identifiers_stand at n (i ∷ is) = (refl, identifiers_stand at (n + 1) is)
+pub identifiers_stand : (p : Placed) → AllByRecursion (λ (i : IdentifierRow). i.at ≡ p.at) (identifier_rows p)
+identifiers_stand p = each_identifier (λ i. i.at ≡ p.at) p.at 1 _ (λ item i low. refl)
 
 -- ---- the days of its interests
 

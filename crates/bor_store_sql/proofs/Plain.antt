@@ -15,7 +15,8 @@ use Rattle.sqlite_schema.specs.declared.command.Returning.{Returning}
 use Rattle.sqlite_resolve.specs.Lowering.{and_then}
 use Rattle.sqlite_resolve.specs.Scope.{Name}
 use Rattle.sqlite.specs.Given.{Returns}
-use Rattle.bor_store_sql.specs.Texts.Meanings.{Asks}
+use Rattle.bor_store_sql.specs.Texts.Meanings.{Asks, AsksIn}
+use Rattle.bor_store_sql.specs.Texts.Tables.{first_schema}
 use Rattle.bor_store_sql.specs.Found.{IsQuery}
 
 -- what comes of a command, where nothing is returned
@@ -80,3 +81,8 @@ pub record IsSelect (text : List ℕ) (command : Command) : Type 0 where
 
 pub is_query : {text : List ℕ} {command : Command} → IsSelect text command → IsQuery text
 is_query {text} is schema = understood_never schema text is.reads
+
+-- the same of one that is asked of version 1 too
+pub record IsSelectBoth (text : List ℕ) (command : Command) : Type 0 where
+  pub now : IsSelect text command
+  pub first : AsksIn first_schema text command

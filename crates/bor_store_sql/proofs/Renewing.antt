@@ -20,7 +20,8 @@ use Rattle.bor_register.specs.declared.filing.AcceptedFiling.{AcceptedFiling}
 use Rattle.bor_register.specs.declared.member.Member.{Member}
 use Rattle.bor_store_sql.specs.Texts.Tables.{keep_schema, agent_at}
 use Rattle.bor_store_sql.specs.Texts.Queries.{equals}
-use Rattle.bor_store_sql.specs.Texts.Changes.{update_token_text, update_token_program}
+use Rattle.bor_store_sql.specs.Texts.Changes.{update_token_program}
+use Rattle.bor_store_sql.specs.declared.texts.changes.TheConstants.{UPDATE_TOKEN}
 use Rattle.bor_store_sql.proofs.OnTexts.ChangeMeanings.{update_token_is}
 use Rattle.bor_store_sql.specs.Rows.Placed.{bare, placed, placed_by, interest_rows, identifier_rows}
 use Rattle.bor_store_sql.specs.Rows.Stored.{AllNumbered, AreCounted, IsStored}
@@ -75,9 +76,9 @@ module _ (agent token : List ℕ) where
   abbrev token_of : Row → Row
   token_of r = column r 0 ∷ column r 0 ∷ column r 1 ∷ Text token ∷ []
 
-  pub token_updated : Making update_token_text token_params (ChangesContents (IsOneAgent agent) (with_token_row agent token))
+  pub token_updated : Making UPDATE_TOKEN.now token_params (ChangesContents (IsOneAgent agent) (with_token_row agent token))
   token_updated old new count h t has one =
-      let done = updates update_token_text token_params keep_schema 1 update_token_program agent_at update_token_is.0 update_token_is.1 refl agent_alone old new count has.schema h in
+      let done = updates UPDATE_TOKEN.now token_params keep_schema 1 update_token_program agent_at update_token_is.0 update_token_is.1 refl agent_alone old new count has.schema h in
       let w = done.2 in
       one_changed 2 old.now new.now w.others _
       (updated 2 refl agent_tests token_params (is_of_agent agent) (λ id x. refl) token_terms token_of (λ s. cast_row agent_at (drop 1 s)) (renewed token)

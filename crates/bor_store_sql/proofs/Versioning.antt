@@ -9,7 +9,8 @@ use Rattle.sqlite.specs.Effect.{Database}
 use Rattle.sqlite_rules.specs.Cast.{cast_row}
 use Rattle.bor_register.specs.Register.{Register}
 use Rattle.bor_store_sql.specs.Texts.Tables.{keep_schema, register_at}
-use Rattle.bor_store_sql.specs.Texts.Changes.{update_version_program, update_version_text}
+use Rattle.bor_store_sql.specs.Texts.Changes.{update_version_program}
+use Rattle.bor_store_sql.specs.declared.texts.changes.TheConstants.{UPDATE_VERSION}
 use Rattle.bor_store_sql.specs.Rows.Encoding.{Contents, contents, first_version, period_columns, register_columns, tables_version, versioned_columns}
 use Rattle.bor_store_sql.specs.Rows.Placed.{placed, register_row}
 use Rattle.bor_store_sql.specs.declared.rows.typed.PeriodRow.{PeriodRow}
@@ -36,11 +37,11 @@ module _ (version : ℤ) where
   abbrev version_of : Row → Row
   version_of r = column r 0 ∷ column r 0 ∷ column r 1 ∷ Int version ∷ column r 3 ∷ column r 4 ∷ []
 
-  pub version_updated : (old new : State) (count : ℕ) (t : Contents) → Has t old.now → IsOneVersion version t → Executes update_version_text (Int version ∷ []) old new (Ok count)
+  pub version_updated : (old new : State) (count : ℕ) (t : Contents) → Has t old.now → IsOneVersion version t → Executes UPDATE_VERSION.now (Int version ∷ []) old new (Ok count)
       → Has (with_version version t) new.now
   version_updated old new count t has one h =
       let params = Int version ∷ [] in
-      let done = updates update_version_text params keep_schema 0 update_version_program register_at update_version_is.0 update_version_is.1 refl register_alone old new count has.schema h in
+      let done = updates UPDATE_VERSION.now params keep_schema 0 update_version_program register_at update_version_is.0 update_version_is.1 refl register_alone old new count has.schema h in
       let w = done.2 in
       one_changed 0 old.now new.now w.others _
       (updated 0 refl one_tests params (is_the_row version) (λ id x. refl) version_terms version_of (λ s. cast_row register_at (drop 1 s)) (versioned version)

@@ -15,7 +15,6 @@ use Rattle.bor_store_sql.specs.Shown.{Has}
 use Rattle.sqlite_keyed.proofs.ListLemmas.{all_of, all_weaker, filter_all, filter_none, filter_same, filter-map, map-flat_map}
 use Rattle.bor_terms.specs.Texts.{is_same}
 use Rattle.bor_terms.proofs.Texts.{same_refl}
-use Rattle.bods_read.specs.declared.statement.Statement.{Statement}
 use Rattle.bor_register.specs.declared.filing.AcceptedFiling.{AcceptedFiling}
 use Rattle.bor_register.specs.declared.member.Member.{Member}
 use Rattle.bor_register.specs.Register.{Register, IsOrdered, with_filings, filings_of}
@@ -25,7 +24,7 @@ use Rattle.bor_store_sql.specs.declared.rows.places.At.{At}
 use Rattle.bor_store_sql.specs.declared.rows.typed.InterestRow.{InterestRow}
 use Rattle.bor_store_sql.specs.declared.rows.typed.IdentifierRow.{IdentifierRow}
 use Rattle.bor_store_sql.specs.declared.rows.typed.PeriodRow.{PeriodRow}
-use Rattle.bor_store_sql.specs.Rows.Placed.{bare, placed_from, placed_by, placed, interest_rows, identifier_rows, interests_listed, identifiers_listed}
+use Rattle.bor_store_sql.specs.Rows.Placed.{bare, placed_from, placed_by, placed, interest_rows, identifier_rows}
 use Rattle.bor_store_sql.specs.Rows.Encoding.{contents, agent_columns, filing_columns, filing_rows, statement_columns, interest_columns, identifier_columns, period_columns}
 use Rattle.bor_register.proofs.Names.{ordered-with_filings}
 use Rattle.bor_register.proofs.Forms.{formed-with_filings, formed-with_withdrawn, formed-filings_of}
@@ -37,6 +36,7 @@ use Rattle.bor_store_sql.proofs.OfOne.{identifiers_stand, interests_stand, numbe
 use Rattle.bor_store_sql.proofs.Orders.{owned, whole, filing_rows_are}
 use Rattle.bor_store_sql.proofs.StoredMembers.{AllCounted, numbered_with, numbered_of, counted_of, counted_with}
 use Rattle.bor_store_sql.proofs.Selects.{text_test, int_test}
+use Rattle.bor_store_sql.proofs.OnRows.Each.{each_from, later_numbers, none_numbered}
 
 -- a row that begins with an agent and a filing's number
 begins : (agent : List ℕ) (number : ℕ) (a : List ℕ) (n : ℕ) (rest : Row) → is_of_filing agent number (Text a ∷ Int (pos n) ∷ rest) ≡ (is_same a agent && n == number)
@@ -52,10 +52,6 @@ agents_with agent new (m ∷ ms) = elim (is_same m.name agent) as (λ b. map age
 module _ (agent : List ℕ) (number : ℕ) where
   -- ---- the filing among its agent's
 
-  later_numbers : (n : ℕ) (fs : List AcceptedFiling) → number < n → AreNumbered n fs → AllByRecursion (λ (f : AcceptedFiling). (f.number == number) ≡ false) fs
-  later_numbers n [] lt up = tt
-  later_numbers n (f ∷ fs) lt up = (let e = up.0 in grind (arith, nat_tests), later_numbers (n + 1) fs (omega arith) up.1)
-
   one_number : (n : ℕ) (fs : List AcceptedFiling) → AreNumbered n fs → length (filter (λ (f : AcceptedFiling). f.number == number) fs) ≤ 1
   one_number n [] up = omega arith
   one_number n (f ∷ fs) up = go (f.number == number) refl (one_number (n + 1) fs up.1)
@@ -64,7 +60,7 @@ module _ (agent : List ℕ) (number : ℕ) where
           → length (cond b (f ∷ filter (λ (g : AcceptedFiling). g.number == number) fs) (filter (λ (g : AcceptedFiling). g.number == number) fs)) ≤ 1
       go true e more =
           let here : number < n + 1 = let g = up.0 in grind (arith, nat_tests) in
-          rw (filter_none (λ (g : AcceptedFiling). g.number == number) fs (later_numbers (n + 1) fs here up.1)) (omega arith)
+          rw (none_numbered number (n + 1) fs here up.1) (omega arith)
       go false e more = more
 
   pub once : (ms : List Member) → IsOrdered ms → AllNumbered ms → length (filter (is_of_filing agent number) (filing_rows ms)) ≤ 1
@@ -102,7 +98,7 @@ module _ (agent : List ℕ) (number : ℕ) where
             → change (one agent f) ++ change (own agent fs) ≡ own agent (if b then as_withdrawn f ∷ fs else f ∷ with_withdrawn number fs)
         go true e more =
             let here : number < n + 1 = let g = up.0 in grind (arith, nat_tests) in
-            let others : AreOthers agent fs = all_weaker (λ (g : AcceptedFiling). (g.number == number) ≡ false) (λ g. is_it agent g ≡ false) (λ g no. rw (same_refl agent) no) fs (later_numbers (n + 1) fs here up.1) in
+            let others : AreOthers agent fs = all_weaker (λ (g : AcceptedFiling). (g.number == number) ≡ false) (λ g. is_it agent g ≡ false) (λ g no. rw (same_refl agent) no) fs (later_numbers number (n + 1) fs here up.1) in
             ap₂ (λ x y. x ++ y) (turns agent f true (rw (same_refl agent) e)) (others_stay agent fs others) ∙ sym (next agent (as_withdrawn f) fs)
         go false e more = ap₂ (λ x y. x ++ y) (turns agent f false (rw (same_refl agent) e)) more ∙ sym (next agent f (with_withdrawn number fs))
 
@@ -136,13 +132,9 @@ module _ (agent : List ℕ) (number : ℕ) where
   abbrev stays : Placed → Bool
   stays p = stays_at p.at
 
-  all_tested : (name : List ℕ) (filing place : ℕ) (ss : List Statement) (b : Bool) → (is_same name agent && filing == number) ≡ b → AllByRecursion (λ p. stays p ≡ not b) (placed_from name filing place ss)
-  all_tested name filing place [] b e = tt
-  all_tested name filing place (s ∷ ss) b e = (ap not e, all_tested name filing (place + 1) ss b e)
-
   placed_turn : (name : List ℕ) (f : AcceptedFiling) (b : Bool) → is_it name f ≡ b → filter stays (placed_from name f.number 1 f.statements) ≡ placed_from name (cond b (as_withdrawn f) f).number 1 (cond b (as_withdrawn f) f).statements
-  placed_turn name f true e = filter_none stays (placed_from name f.number 1 f.statements) (all_tested name f.number 1 f.statements true e)
-  placed_turn name f false e = filter_all stays (placed_from name f.number 1 f.statements) (all_tested name f.number 1 f.statements false e)
+  placed_turn name f true e = filter_none stays (placed_from name f.number 1 f.statements) (each_from (λ p. stays p ≡ false) name f.number 1 f.statements (λ place s low. ap not e))
+  placed_turn name f false e = filter_all stays (placed_from name f.number 1 f.statements) (each_from (λ p. stays p ≡ true) name f.number 1 f.statements (λ place s low. ap not e))
 
   statements_gone : (ms : List Member) → IsOrdered ms → AllNumbered ms → filter stays (placed ms) ≡ placed (changed ms)
   statements_gone =
@@ -210,11 +202,11 @@ module _ (agent : List ℕ) (number : ℕ) where
         statements = subst (λ xs. Keeps xs (db.trees 8)) (statement_rows_gone ps ∙ ap (map (λ p. statement_columns (bare p))) gone) h.statements;
         interests = subst (λ xs. Keeps xs (db.trees 11))
             (ap (others agent number) (sym (interests ps)) ∙ rows_gone interest_columns (λ (i : InterestRow). i.at) (λ i. begins agent number i.at.agent i.at.filing (drop 2 (interest_columns i))) interest_rows
-            (λ p. interests_stand p.at 1 (interests_listed p.statement.details)) ps ∙ ap (λ qs. map interest_columns (flat_map interest_rows qs)) gone ∙ interests (placed (changed r.members))) h.interests;
+            interests_stand ps ∙ ap (λ qs. map interest_columns (flat_map interest_rows qs)) gone ∙ interests (placed (changed r.members))) h.interests;
         identifiers = subst (λ xs. Keeps xs (db.trees 13))
             (ap (others agent number) (sym (identifiers ps)) ∙ rows_gone identifier_columns (λ (i : IdentifierRow). i.at) (λ i. begins agent number i.at.agent i.at.filing (drop 2 (identifier_columns i))) identifier_rows
-            (λ p. identifiers_stand p.at 1 (identifiers_listed p.statement.details)) ps ∙ ap (λ qs. map identifier_columns (flat_map identifier_rows qs)) gone ∙ identifiers (placed (changed r.members))) h.identifiers;
+            identifiers_stand ps ∙ ap (λ qs. map identifier_columns (flat_map identifier_rows qs)) gone ∙ identifiers (placed (changed r.members))) h.identifiers;
         periods = subst (λ xs. Keeps xs (db.trees 19))
             (ap (others agent number) (sym (periods_are ps)) ∙ rows_gone period_columns (λ (q : PeriodRow). q.at) (λ q. begins agent number q.at.agent q.at.filing (drop 2 (period_columns q))) periods_of
-            (λ p. periods_stand p.at (interest_rows p) (interests_stand p.at 1 (interests_listed p.statement.details))) ps ∙ ap (λ qs. map period_columns (flat_map periods_of qs)) gone ∙ periods_are (placed (changed r.members))) h.periods;
+            (λ p. periods_stand p.at (interest_rows p) (interests_stand p)) ps ∙ ap (λ qs. map period_columns (flat_map periods_of qs)) gone ∙ periods_are (placed (changed r.members))) h.periods;
       }

@@ -8,7 +8,8 @@ use Rattle.sqlite_resolve.specs.Compile.{first, index_defined_by}
 use Rattle.sqlite_resolve.specs.declared.error.CompileError.{CompileError}
 use Rattle.sqlite_schema.specs.declared.schema.Index.{Index}
 use Rattle.sqlite_tied.specs.Compute.{everything}
-use Rattle.bor_store_sql.specs.Texts.Changes.{insert_register_text, insert_register_terms}
+use Rattle.bor_store_sql.specs.Texts.Changes.{insert_register_terms}
+use Rattle.bor_store_sql.specs.declared.texts.changes.TheConstants.{INSERT_REGISTER}
 use Rattle.bor_store_sql.specs.Texts.Tables.{register_table, filing_table, statement_table, identifier_table, record_index, subject_index, identifier_index, line_index}
 use Rattle.bor_store_sql.specs.declared.texts.tables.TheConstants.{REGISTER_TABLE, AGENT_TABLE, FILING_TABLE, STATEMENT_TABLE, INTEREST_TABLE, IDENTIFIER_TABLE, PERIOD_TABLE, RECORD_INDEX, SUBJECT_INDEX, IDENTIFIER_INDEX, LINE_INDEX}
 use Rattle.bor_store_sql.proofs.AnySchema.{IsPutting, Indexes, Makes, Reads, untimed}
@@ -72,6 +73,6 @@ pub line_index_text : IsIndexText LINE_INDEX.now filing_table line_index
 unfolding everything
 line_index_text = record { reads = ((_, refl, refl, refl), refl); untimed = refl; defined = λ tree. refl }
 
-pub insert_register_reads : IsPutting register_table (Values insert_register_terms 5) (first insert_register_text)
+pub insert_register_reads : IsPutting register_table (Values insert_register_terms 5) (first INSERT_REGISTER.now)
 unfolding everything
 insert_register_reads = ((_, _, refl, λ schema tree. refl), refl)

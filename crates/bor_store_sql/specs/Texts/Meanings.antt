@@ -9,7 +9,7 @@ use Rattle.sqlite.specs.Table.{Table}
 use Rattle.sqlite.proofs.Callers.{IsPlain, command_of, statement_of}
 use Rattle.sqlite_resolve.specs.Compile.{index_defined_by}
 use Rattle.sqlite_schema.specs.declared.schema.Index.{Index}
-use Rattle.bor_store_sql.specs.Texts.Tables.{first_schema, keep_schema}
+use Rattle.bor_store_sql.specs.Texts.Tables.{keep_schema}
 
 -- under a schema the text is one query, and this one; it reads no list of the schema
 abbrev pub AsksIn : Schema → List ℕ → Command → Type 0
@@ -19,11 +19,6 @@ AsksIn schema text command =
 
 abbrev pub Asks : List ℕ → Command → Type 0
 Asks text command = AsksIn keep_schema text command
-
--- the text means the command under the schema of version 1 too
-pub record AsksBoth (text : List ℕ) (command : Command) : Type 0 where
-  pub first : AsksIn first_schema text command
-  pub now : AsksIn keep_schema text command
 
 -- the text is one change, and this one
 abbrev pub Does : List ℕ → Command → Type 0
