@@ -1,13 +1,13 @@
 -- The meanings of the texts that make the tables and put down the register's row, whatever the schema.
 use Rattle.std.specs.Option.{option_or}
 use Rattle.std.proofs.Common.{not, length, ◌==◌, ◌&&◌, ◌≡◌, ◌⊎◌, inl, inr, ℕ, ◌+◌, Bool, true, false, cond, List, [], slice_range, Option, None, Some, slice_get, Ok, Err, Result, is_some, true≢false, refl, sym, ap, subst, ◌∙◌}
-use Rattle.sqlite.proofs.Callers.{IsPlain}
+use Rattle.sqlite.proofs.Callers.{IsPlain, command_of, statement_of, runs_as}
 use Rattle.sqlite.specs.Command.{Command}
 use Rattle.sqlite.specs.Command.TheVariants.{CreateTable, CreateIndex, Insert, Nothing}
 use Rattle.sqlite.specs.Source.{Source}
 use Rattle.sqlite.specs.Listing.{understood, listing_schema, if_select, misses_table, is_select}
 use Rattle.sqlite.specs.Schema.{Schema}
-use Rattle.sqlite.specs.State.{text_of}
+use Rattle.sqlite.specs.State.{text_of, State, Executes, ExecutesIn, Runs}
 use Rattle.sqlite.specs.Table.{Table}
 use Rattle.sqlite_ast.specs.declared.CreateTable.{CreateTable as CreateTableText}
 use Rattle.sqlite_ast.specs.declared.CreateIndex.{CreateIndex as CreateIndexText}
@@ -24,6 +24,9 @@ use Rattle.sqlite_resolve.specs.declared.error.CompileError.{CompileError}
 use Rattle.sqlite_resolve.specs.declared.error.CompileError.TheVariants.{NoSuchTable, Misuse, Exists, Unsupported}
 use Rattle.sqlite_schema.specs.Names.{table_named, index_named, view_named}
 use Rattle.sqlite_syntax.specs.declared.statement.Parsed.{Parsed}
+use Rattle.sqlite.specs.Order.{Row}
+use Rattle.sqlite.specs.Does.{AtPlace}
+use Rattle.sqlite.specs.Rows.{Part}
 
 -- ---- what texts are
 
@@ -229,3 +232,23 @@ module _ (schema : Schema) (table : Table) (at tree : ℕ) (source : Source) (un
       go : (r : Result Compiled CompileError) → IsInsert at source r → IsInsert at source (cond (misses_table r) (if_select (compiled listing_schema text)) r)
       go (Ok c) is = is
       go (Err e) is = absurd is
+
+-- ---- a text that is run
+
+-- what a text is understood as that was run
+understood_as : (P : Compiled → Type 0) (sql : List ℕ) (params : Row) (old new : State) (count : ℕ) → ((c : Compiled) → understood old.now.schema sql ≡ Ok c → P c)
+    → Executes sql params old new (Ok count) → (c : Compiled) × (understood old.now.schema sql ≡ Ok c) × P c
+unfolding ExecutesIn
+understood_as P sql params old new count means h = (h.0, h.1.is, means h.0 h.1.is)
+
+-- it runs as what its command does
+pub runs_so : (Is : Command → Type 0) (text : List ℕ) (old new : State) (count : ℕ) → ((c : Compiled) → understood old.now.schema text ≡ Ok c → Means Is text c)
+    → Executes text [] old new (Ok count) → (k : Command) × Is k × Runs old new None k text [] count
+runs_so Is text old new count means h =
+    let it = understood_as (Means Is text) text [] old new count means h in
+    let ran = runs_as text [] old new old.now.schema refl it.0.command (ap command_of it.1) (subst IsPlain (sym it.1) it.2.plain) count h in
+    (it.0.command, it.2.command, subst (λ t. Runs old new None it.0.command t [] count) (ap (statement_of text) it.1 ∙ it.2.whole) ran)
+
+-- what was done at a place
+pub placed : {X A : Type 0} (P : X → Part A) (o : Option X) (x : X) → o ≡ Some x → (a : A) → AtPlace P o (Ok a) → P x (Ok a)
+placed P o x is a h = subst (λ p. AtPlace P p (Ok a)) is h

@@ -62,8 +62,8 @@ module _ (r : Register) (old new : State) (shows : ShowsIn r old) (settled : old
   has_now = subst (Has (contents r)) (sym settled) shows.has
 
   -- the rows are the query's answer
-  pub answers : (text : List ℕ) (params : Row) (query : Query) (names : List (List ℕ)) → Asks text (shows_rows query names) → (rows : List Row) → Shown text params old new rows → IsAnswer query (overlay old.now.trees []) params rows
-  answers text params query names is rows h = (reads_as text params old new keep_schema has_now.schema (shows_rows query names) is.0 is.1 is.2 rows h).answer Null
+  pub answers : (text : List ℕ) (params : Row) (query : Query) → Asks text query → (rows : List Row) → Shown text params old new rows → IsAnswer query (overlay old.now.trees []) params rows
+  answers text params query is rows h = (reads_as text params old new keep_schema has_now.schema (shows_rows query is.0) is.1 is.2 is.3 rows h).answer Null
 
 -- ---- either version
 
@@ -94,19 +94,19 @@ pub record Asked (IsShown : Register → State → Type 0) (text : List ℕ) (qu
   pub lists : (r : Register) (s : State) → IsShown r s → ShowsLists r s
   pub answer : (r : Register) (old new : State) → IsShown r old → (params : Row) (rows : List Row) → Shows text params old new rows → IsAnswer query (overlay old.now.trees []) params rows
 
-pub asked_now : {text : List ℕ} {query : Query} {names : List (List ℕ)} → IsSelect text (shows_rows query names) → Asked ShowsIn text query
-asked_now {text} {query} {names} is = record {
+pub asked_now : {text : List ℕ} {query : Query} → IsSelect text query → Asked ShowsIn text query
+asked_now {text} {query} is = record {
   is_query = is_query is;
   lists = of_now;
-  answer = λ r old new shows params rows h. answers r old new shows h.0 text params query names is.asks rows h.1;
+  answer = λ r old new shows params rows h. answers r old new shows h.0 text params query is.asks rows h.1;
 }
 
-pub asked_both : {text : List ℕ} {query : Query} {names : List (List ℕ)} → IsSelectBoth text (shows_rows query names) → Asked ShowsLists text query
-asked_both {text} {query} {names} is = record { is_query = is_query is.now; lists = λ r s shows. shows; answer = λ r old new shows params rows h. go old new params rows h.1 (subst IsOfVersion (ap (λ (db : Database). db.schema) (sym h.0)) shows.has.schema) }
+pub asked_both : {text : List ℕ} {query : Query} → IsSelectBoth text query → Asked ShowsLists text query
+asked_both {text} {query} is = record { is_query = is_query is.now; lists = λ r s shows. shows; answer = λ r old new shows params rows h. go old new params rows h.1 (subst IsOfVersion (ap (λ (db : Database). db.schema) (sym h.0)) shows.has.schema) }
   where
     go : (old new : State) (params : Row) (rows : List Row) → Shown text params old new rows → IsOfVersion old.now.schema → IsAnswer query (overlay old.now.trees []) params rows
-    go old new params rows h (inl first) = (reads_as text params old new _ first (shows_rows query names) is.first.0 is.first.1 is.first.2 rows h).answer Null
-    go old new params rows h (inr now) = (reads_as text params old new _ now (shows_rows query names) is.now.asks.0 is.now.asks.1 is.now.asks.2 rows h).answer Null
+    go old new params rows h (inl first) = (reads_as text params old new _ first (shows_rows query is.first.0) is.first.1 is.first.2 is.first.3 rows h).answer Null
+    go old new params rows h (inr now) = (reads_as text params old new _ now (shows_rows query is.now.asks.0) is.now.asks.1 is.now.asks.2 is.now.asks.3 rows h).answer Null
 
 -- ---- reads change nothing
 

@@ -18,6 +18,7 @@ use Rattle.sqlite.specs.Given.{Returns}
 use Rattle.bor_store_sql.specs.Texts.Meanings.{Asks, AsksIn}
 use Rattle.bor_store_sql.specs.Texts.Tables.{first_schema}
 use Rattle.bor_store_sql.specs.Found.{IsQuery}
+use Rattle.sqlite.specs.Query.{Query}
 
 -- what comes of a command, where nothing is returned
 abbrev Never : Result Compiled CompileError → Type 0
@@ -75,14 +76,14 @@ understood_never schema text is =
     either (misses_table (compiled schema text)) (if_select (compiled listing_schema text)) (compiled schema text) (listed_never (compiled listing_schema text) (compiled_never listing_schema text is)) (compiled_never schema text is)
 
 -- a query whatever the schema, which asks for this under that of the register's tables
-pub record IsSelect (text : List ℕ) (command : Command) : Type 0 where
+pub record IsSelect (text : List ℕ) (query : Query) : Type 0 where
   pub reads : ReadsFirst (first text)
-  pub asks : Asks text command
+  pub asks : Asks text query
 
-pub is_query : {text : List ℕ} {command : Command} → IsSelect text command → IsQuery text
+pub is_query : {text : List ℕ} {query : Query} → IsSelect text query → IsQuery text
 is_query {text} is schema = understood_never schema text is.reads
 
 -- the same of one that is asked of version 1 too
-pub record IsSelectBoth (text : List ℕ) (command : Command) : Type 0 where
-  pub now : IsSelect text command
-  pub first : AsksIn first_schema text command
+pub record IsSelectBoth (text : List ℕ) (query : Query) : Type 0 where
+  pub now : IsSelect text query
+  pub first : AsksIn first_schema text query

@@ -94,7 +94,7 @@ all_register_found = record {
   query = is_query all_register_is;
   gives = λ r old new rows shows h.
       picked_rows 0 refl all_register_query.filter [] all_register_query.project all_register_query.order (λ id x. refl) register_columns register_columns (λ x. true) (λ x. refl) (r ∷ []) old.now.trees (register_columns r ∷ []) rows refl
-      (has_now r old new shows h.0).register (λ id x. refl) (λ x. refl) (answers r old new shows h.0 ALL_REGISTER.now [] all_register_query _ all_register_is.asks rows h.1) (λ a b. ⊥)
+      (has_now r old new shows h.0).register (λ id x. refl) (λ x. refl) (answers r old new shows h.0 ALL_REGISTER.now [] all_register_query all_register_is.asks rows h.1) (λ a b. ⊥)
       (λ a b lt. absurd lt) (tt, tt);
 }
 
@@ -125,7 +125,7 @@ more_statements_found count = record {
       let out : Placed → Row = λ p. Int (pos 1) ∷ [] in
       picked_later 8 refl more_statements_query.filter (Int (pos count) ∷ []) more_statements_query.project [] (λ id x. refl) (λ p. statement_columns (bare p)) out (λ p. true) (λ p. refl) (placed r.members) old.now.trees
       (map (λ p. statement_columns (bare p)) (placed r.members)) rows refl (has_now r old new shows h.0).statements 0 count refl (λ id x. refl) (λ p. refl)
-      (answers r old new shows h.0 MORE_STATEMENTS.now (Int (pos count) ∷ []) more_statements_query _ more_statements_is.asks rows h.1) (Int (pos 1) ∷ []) (all_of (λ p. out p ≡ Int (pos 1) ∷ []) (λ p. refl) (filter (λ p. true) (placed r.members)))
+      (answers r old new shows h.0 MORE_STATEMENTS.now (Int (pos count) ∷ []) more_statements_query more_statements_is.asks rows h.1) (Int (pos 1) ∷ []) (all_of (λ p. out p ≡ Int (pos 1) ∷ []) (λ p. refl) (filter (λ p. true) (placed r.members)))
       ∙ ap (λ l. map out (take 1 (drop count l))) (all_pass (placed r.members));
 }
 
@@ -171,7 +171,7 @@ last_filing_found agent = record {
       let own = own_owned agent r.members shows.stored.ordered in
       let up = filings_rise IsLaterNumber (owned_filing agent) (λ f g lt. lt) 1 fs (numbered_of agent r.members shows.stored.numbered) in
       picked_last 5 refl last_filing_query.filter (Text agent ∷ []) last_filing_query.project last_filing_query.order (λ id x. refl) whole out (λ o. is_same o.agent agent) (λ o. and-true _ ∙ text_test o.agent agent) (owned r.members) old.now.trees
-      (filing_rows r.members) rows (filing_rows_are r.members) (has_now r old new shows h.0).filings (λ id x. refl) (λ o. refl) (answers r old new shows h.0 LAST_FILING.now (Text agent ∷ []) last_filing_query _ last_filing_is.asks rows h.1)
+      (filing_rows r.members) rows (filing_rows_are r.members) (has_now r old new shows h.0).filings (λ id x. refl) (λ o. refl) (answers r old new shows h.0 LAST_FILING.now (Text agent ∷ []) last_filing_query last_filing_is.asks rows h.1)
       IsLaterNumber (λ a b lt. rw (lower_id a.filing.number b.filing.number lt) refl) (subst (IsAscending IsLaterNumber) (sym own) up)
       ∙ ap (λ l. map out (take 1 (reverse l))) own ∙ ap (map out) (last_of_map (owned_filing agent) fs) ∙ map-map out (owned_filing agent) (last fs);
 }
@@ -188,7 +188,7 @@ last_of_series_found agent declaration rec = record {
       picked_last 8 refl last_of_series_query.filter (Text agent ∷ Text declaration ∷ Text rec ∷ []) last_of_series_query.project last_of_series_query.order (λ id x. refl) out out (λ p. is_same p.at.agent agent && q p)
       (λ p. ap₂ (λ x y. x && y) (text_test p.at.agent agent) (ap₂ (λ x y. x && y) (text_test p.statement.declaration declaration) (and-true _ ∙ text_test p.statement.rec rec))) (placed r.members) old.now.trees
       (map out (placed r.members)) rows refl (has_now r old new shows h.0).statements (λ id x. refl) (λ p. statement_shown (bare p))
-      (answers r old new shows h.0 LAST_OF_SERIES.now (Text agent ∷ Text declaration ∷ Text rec ∷ []) last_of_series_query _ last_of_series_is.asks rows h.1) Up (λ a b lt. lt) (subst (IsAscending Up) (sym own) up)
+      (answers r old new shows h.0 LAST_OF_SERIES.now (Text agent ∷ Text declaration ∷ Text rec ∷ []) last_of_series_query last_of_series_is.asks rows h.1) Up (λ a b lt. lt) (subst (IsAscending Up) (sym own) up)
       ∙ ap (λ l. map out (last l)) own;
 }
 
