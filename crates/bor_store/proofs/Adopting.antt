@@ -18,7 +18,6 @@ use Rattle.sqlite.specs.Term.{col}
 use Rattle.sqlite.proofs.Callers.{reads_as}
 use Rattle.sqlite_schema.specs.Names.{same_name}
 use Rattle.bor_register.specs.Register.{Register}
-use Rattle.bor_store_sql.specs.Texts.Meanings.{Asks, AsksIn}
 use Rattle.bor_store_sql.specs.Texts.Queries.{table_query, shows_rows}
 use Rattle.bor_store_sql.specs.Texts.Tables.{first_schema, keep_schema}
 use Rattle.bor_store_sql.specs.Rows.Encoding.{versioned_columns}
@@ -29,26 +28,18 @@ use Rattle.bor_store_sql.specs.Kept.{Keeps}
 use Rattle.bor_store_sql.specs.Shown.{HasFirst, ShowsFirst, ShowsIn, first_contents}
 use Rattle.bor_store_sql.proofs.Finding.{Shows, answers, has_now}
 use Rattle.bor_store_sql.proofs.Picking.{picked_rows}
-use Rattle.bor_store_sql.proofs.Plain.{understood_never}
+use Rattle.bor_store_sql.proofs.Plain.{IsSelectBoth, is_query}
 use Rattle.bor_store.specs.Opening.{is_versioned, has_all, has_first, is_period_used, version_text, AreVersions}
 
 abbrev version_query : Query
 version_query = table_query 0 ([]) (col 1 2 ∷ []) ([])
 
-abbrev version_command : Command
-version_command = shows_rows version_query (codes "version" ∷ [])
-
-version_is : Asks version_text version_command
+version_is : IsSelectBoth version_text version_query
 unfolding understood everything
-version_is = (refl, (refl, refl), refl)
-
-version_first_is : AsksIn first_schema version_text version_command
-unfolding understood everything
-version_first_is = (refl, (refl, refl), refl)
+version_is = record { now = record { reads = (_, refl); asks = (_, refl, (refl, refl), refl) }; first = (_, refl, (refl, refl), refl) }
 
 pub version_asks : IsQuery version_text
-unfolding everything
-version_asks schema = understood_never schema version_text refl
+version_asks = is_query version_is.now
 
 -- what the query shows of a state it shows of it whatever it leaves
 module _ (old new : State) where
@@ -107,14 +98,14 @@ picked version row old rows kept answer =
 
 module _ (r : Register) (old new : State) (rows : List Row) where
   pub version_found : ShowsIn r old → Shows version_text [] old new rows → rows ≡ (Int (pos 2) ∷ []) ∷ []
-  version_found shows h = picked (pos 2) (register_row r) old rows (has_now r old new shows h.0).register (answers r old new shows h.0 version_text [] version_query _ version_is rows h.1)
+  version_found shows h = picked (pos 2) (register_row r) old rows (has_now r old new shows h.0).register (answers r old new shows h.0 version_text [] version_query version_is.now.asks rows h.1)
 
   -- version 1
   pub first_found : ShowsFirst r old → Shows version_text [] old new rows → rows ≡ (Int (pos 1) ∷ []) ∷ []
   first_found shows h =
       let has = subst (HasFirst (first_contents r)) (sym h.0) shows.has in
       picked (pos 1) (register_row r) old rows has.register
-      ((reads_as version_text [] old new first_schema has.schema version_command version_first_is.0 version_first_is.1 version_first_is.2 rows h.1).answer Null)
+      ((reads_as version_text [] old new first_schema has.schema (shows_rows version_query version_is.first.0) version_is.first.1 version_is.first.2 version_is.first.3 rows h.1).answer Null)
 
 -- ---- which tables there are
 

@@ -16,6 +16,7 @@ pub mod Moving
 pub mod SettledFits
 pub mod Holding
 pub mod Stopping
+pub mod Changing
 pub mod Few
 pub mod Stored
 pub mod FirstLegal

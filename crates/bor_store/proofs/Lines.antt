@@ -1,5 +1,5 @@
 -- The days that are gathered line by line are those that the files of a register's live filings say.
-use Rattle.std.proofs.Common.{◌≡◌, ◌+◌, ◌<◌, ◌≤◌, ℕ, Bool, true, false, List, [], ◌∷◌, ◌++◌, map, take, drop, length, get_or, slice_get, Some, Vec, Result, Ok, Err, append_assoc, append-nil, refl, sym, ap, ap₂, subst, ◌∙◌, arith}
+use Rattle.std.proofs.Common.{◌≡◌, ◌↔◌, ◌+◌, ◌<◌, ◌≤◌, ℕ, Bool, true, false, List, [], ◌∷◌, ◌++◌, map, take, drop, length, get_or, slice_get, Some, Vec, Result, Ok, Err, append_assoc, append-nil, refl, sym, ap, ap₂, subst, ◌∙◌, arith, Option}
 use Rattle.std.specs.List.{AllByRecursion}
 use Rattle.std.specs.declared.alloc.Global.{Global}
 use Rattle.std.proofs.lemmas.List.{take_more, drop_more, take-append-drop}
@@ -12,7 +12,7 @@ use Rattle.bor_terms.proofs.Texts.{same_refl, same_sym}
 use Rattle.bor_register.specs.Register.{IsOrdered, filings_of}
 use Rattle.bor_register.specs.declared.filing.AcceptedFiling.{AcceptedFiling}
 use Rattle.bor_register.specs.declared.member.Member.{Member}
-use Rattle.bor_store_sql.proofs.OnRows.Numbers.{same_number, other_number, before_number}
+use Rattle.bor_store_sql.proofs.OnRows.Numbers.{same_number, before_number}
 use Rattle.bor_store_sql.specs.Rows.Placed.{filing_lines, filing_row, placed_from}
 use Rattle.bor_store_sql.specs.Rows.Stored.{AllNumbered, AreNumbered}
 use Rattle.bor_store_sql.specs.declared.rows.typed.FilingRow.{FilingRow}
@@ -21,6 +21,7 @@ use Rattle.bor_store_sql.specs.Selected.{numbered}
 use Rattle.bor_store_sql.proofs.Members.{apart_names}
 use Rattle.bor_store_reads.specs.declared.fault.ReadError.{ReadError}
 use Rattle.bor_store.specs.Migrating.{FileSays, FilesSay, FilingSays, FoundSays, GathersAll, LineSays, LinesSay, OwnSay, UnlessWithdrawn, interest_days, filed_at}
+use Rattle.bor_store_sql.proofs.OnRows.Each.{none_numbered}
 
 -- ---- one line after the other
 
@@ -56,10 +57,6 @@ module _ (ms : List Member) where
 abbrev IsFound : List AcceptedFiling → AcceptedFiling → Type 0
 IsFound whole f = numbered f.number whole ≡ f ∷ []
 
-pub none_numbered : (number n : ℕ) (fs : List AcceptedFiling) → number < n → AreNumbered n fs → numbered number fs ≡ []
-none_numbered number n [] low h = refl
-none_numbered number n (f ∷ fs) low h = rw (other_number number f.number (let is = h.0 in omega (arith, is, low))) (none_numbered number (n + 1) fs (omega (arith, low)) h.1)
-
 record IsAlone (whole : List AcceptedFiling) (low : ℕ) (f : AcceptedFiling) : Type 0 where
   pub found : IsFound whole f
   pub from : low ≤ f.number
@@ -88,34 +85,31 @@ module _ (whole : List Member) where
     found_at : (n : ℕ) (f : AcceptedFiling) → IsAlone own n f → filed_at agent f.number whole ≡ Some f
     found_at n f h = ap (λ fs. slice_get (numbered f.number fs) 0) mine ∙ ap (λ fs. slice_get fs 0) h.found
 
-    own_said : (n : ℕ) (fs : List AcceptedFiling) → AllByRecursion (IsAlone own n) fs → (days : List PeriodRow) → LinesSay whole (map (filing_row agent) fs) days → OwnSay agent fs days
-    own_said n [] alone days h = h
-    own_said n (f ∷ fs) alone days h =
-        (h.0, h.1, subst (λ o. UnlessWithdrawn f.withdrawn (FoundSays agent f.number o) h.0) (found_at n f alone.0) h.2, own_said n fs alone.1 h.1 h.3, h.4)
+    own_say : (n : ℕ) (fs : List AcceptedFiling) → AllByRecursion (IsAlone own n) fs → (days : List PeriodRow) → LinesSay whole (map (filing_row agent) fs) days ↔ OwnSay agent fs days
+    own_say n [] alone days = (λ h. h, λ h. h)
+    own_say n (f ∷ fs) alone days =
+        let Says : Option AcceptedFiling → List PeriodRow → Type 0 = λ o ps. UnlessWithdrawn f.withdrawn (FoundSays agent f.number o) ps in
+        let found = found_at n f alone.0 in (
+          λ h. (h.0, h.1, subst (λ o. Says o h.0) found h.2, (own_say n fs alone.1 h.1).0 h.3, h.4),
+          λ h. (h.0, h.1, subst (λ o. Says o h.0) (sym found) h.2, (own_say n fs alone.1 h.1).1 h.3, h.4),
+        )
 
-    own_told : (n : ℕ) (fs : List AcceptedFiling) → AllByRecursion (IsAlone own n) fs → (days : List PeriodRow) → OwnSay agent fs days → LinesSay whole (map (filing_row agent) fs) days
-    own_told n [] alone days h = h
-    own_told n (f ∷ fs) alone days h =
-        (h.0, h.1, subst (λ o. UnlessWithdrawn f.withdrawn (FoundSays agent f.number o) h.0) (sym (found_at n f alone.0)) h.2, own_told n fs alone.1 h.1 h.3, h.4)
-
-  files_said : (ms : List Member) → AllByRecursion (λ (m : Member). filings_of m.name whole ≡ m.filings) ms → AllNumbered ms → (days : List PeriodRow) → LinesSay whole (filing_lines ms) days → FilesSay ms days
-  files_said [] own numbers days h = h
-  files_said (m ∷ ms) own numbers days h =
-      let parts = lines_split whole (map (filing_row m.name) m.filings) (filing_lines ms) days h in
-      (parts.0, parts.1, own_said m.name m.filings own.0 1 m.filings (each_alone 1 m.filings numbers.0) parts.0 parts.2, files_said ms own.1 numbers.1 parts.1 parts.3, parts.4)
-
-  files_told : (ms : List Member) → AllByRecursion (λ (m : Member). filings_of m.name whole ≡ m.filings) ms → AllNumbered ms → (days : List PeriodRow) → FilesSay ms days → LinesSay whole (filing_lines ms) days
-  files_told [] own numbers days h = h
-  files_told (m ∷ ms) own numbers days h =
-      subst (LinesSay whole (map (filing_row m.name) m.filings ++ filing_lines ms)) (sym h.4)
-      (lines_append whole (map (filing_row m.name) m.filings) (filing_lines ms) h.0 h.1 (own_told m.name m.filings own.0 1 m.filings (each_alone 1 m.filings numbers.0) h.0 h.2) (files_told ms own.1 numbers.1 h.1 h.3))
+  all_say : (ms : List Member) → AllByRecursion (λ (m : Member). filings_of m.name whole ≡ m.filings) ms → AllNumbered ms → (days : List PeriodRow) → LinesSay whole (filing_lines ms) days ↔ FilesSay ms days
+  all_say [] own numbers days = (λ h. h, λ h. h)
+  all_say (m ∷ ms) own numbers days =
+      let first : (ps : List PeriodRow) → LinesSay whole (map (filing_row m.name) m.filings) ps ↔ OwnSay m.name m.filings ps = own_say m.name m.filings own.0 1 m.filings (each_alone 1 m.filings numbers.0) in
+      let rest = all_say ms own.1 numbers.1 in (
+        λ h.
+            let parts = lines_split whole (map (filing_row m.name) m.filings) (filing_lines ms) days h in
+            (parts.0, parts.1, (first parts.0).0 parts.2, (rest parts.1).0 parts.3, parts.4),
+        λ h.
+            subst (LinesSay whole (map (filing_row m.name) m.filings ++ filing_lines ms)) (sym h.4)
+            (lines_append whole (map (filing_row m.name) m.filings) (filing_lines ms) h.0 h.1 ((first h.0).1 h.2) ((rest h.1).1 h.3)),
+      )
 
 -- the lines of a register say what the files of its live filings say
-lines_say : (ms : List Member) → IsOrdered ms → AllNumbered ms → (days : List PeriodRow) → LinesSay ms (filing_lines ms) days → FilesSay ms days
-lines_say ms up numbers = files_said ms ms (all_own ms up) numbers
-
-say_lines : (ms : List Member) → IsOrdered ms → AllNumbered ms → (days : List PeriodRow) → FilesSay ms days → LinesSay ms (filing_lines ms) days
-say_lines ms up numbers = files_told ms ms (all_own ms up) numbers
+lines_say : (ms : List Member) → IsOrdered ms → AllNumbered ms → (days : List PeriodRow) → LinesSay ms (filing_lines ms) days ↔ FilesSay ms days
+lines_say ms up numbers = all_say ms ms (all_own ms up) numbers
 
 -- ---- they say one thing alone
 
@@ -144,5 +138,5 @@ files_once (m ∷ ms) ps qs h k = h.4 ∙ ap₂ (λ x y. x ++ y) (own_once m.nam
 -- ---- all that the files say
 
 pub gathered_all : (ms : List Member) → IsOrdered ms → AllNumbered ms → (result : Result (Vec PeriodRow Global) ReadError) → GathersAll (LinesSay ms (filing_lines ms)) result → GathersAll (FilesSay ms) result
-gathered_all ms up numbers (Ok days) h = lines_say ms up numbers days.items h
-gathered_all ms up numbers (Err error) h = λ damaged days says. h damaged days (say_lines ms up numbers days says)
+gathered_all ms up numbers (Ok days) h = (lines_say ms up numbers days.items).0 h
+gathered_all ms up numbers (Err error) h = λ damaged days says. h damaged days ((lines_say ms up numbers days).1 says)

@@ -2,7 +2,6 @@
 use Rattle.std.proofs.Common.{◌≡◌, ◌⊎◌, inl, inr, ◌+◌, ◌==◌, ℕ, Bool, true, false, cond, List, [], ◌∷◌, append-nil, slice_get, Some, None, refl, sym, ap, subst, ◌∙◌, arith}
 use Rattle.std.specs.Prelude.{◌↔◌, if◌then◌else◌, IsTrue}
 use Rattle.std.specs.List.{flat_map}
-use Rattle.std.proofs.lemmas.Bool.Decides.{nat_tests}
 use Rattle.bods_read.specs.declared.statement.Statement.{Statement}
 use Rattle.bor_terms.specs.Texts.{is_same}
 use Rattle.bor_register.specs.Register.{Register, filings_of}
@@ -12,14 +11,12 @@ use Rattle.bor_store_sql.specs.Rows.Stored.{AllNumbered, AreNumbered, IsStored}
 use Rattle.bor_store_sql.specs.Fitting.{Fit, statements_kept}
 use Rattle.bor_store_sql.specs.Selected.{numbered}
 use Rattle.bor_store.specs.Migrating.{filed_at}
-use Rattle.bor_store.proofs.Lines.{none_numbered}
+use Rattle.bor_store_sql.proofs.OnRows.Each.{none_numbered}
+use Rattle.bor_store_sql.proofs.OnRows.Successors.{is_number}
 
 numbered_of : (agent : List ℕ) (ms : List Member) → AllNumbered ms → AreNumbered 1 (filings_of agent ms)
 numbered_of agent [] h = tt
 numbered_of agent (m ∷ ms) h = elim (is_same m.name agent) as (λ b. AreNumbered 1 (if b then m.filings else filings_of agent ms)) [ true ↦ h.0 | false ↦ numbered_of agent ms h.1 ]
-
-same_numbers : (m n : ℕ) → (m == n) ≡ true → m ≡ n
-same_numbers m n e = grind (arith, nat_tests)
 
 -- at most one has the number
 abbrev IsAtMost : List AcceptedFiling → Type 0
@@ -32,7 +29,7 @@ one_numbered number n (f ∷ fs) h = go (f.number == number) refl (one_numbered 
     go : (b : Bool) → (f.number == number) ≡ b → IsAtMost (numbered number fs) → IsAtMost (cond b (f ∷ numbered number fs) (numbered number fs))
     go true e more =
         let is = h.0 in
-        let same = same_numbers f.number number e in
+        let same = is_number f.number number e in
         inr (f, ap (λ l. f ∷ l) (none_numbered number (n + 1) fs (omega (arith, is, same)) h.1))
     go false e more = more
 

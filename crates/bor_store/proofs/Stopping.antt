@@ -8,7 +8,7 @@ use Rattle.bor_register.specs.Register.{Register}
 use Rattle.bor_store_sql.specs.Changing.{all_periods}
 use Rattle.bor_store_sql.specs.Shown.{IsClean, LeavesAtMost, ShowsFirst, ShowsIn, ShowsLists, Stands}
 use Rattle.bor_store_sql.specs.declared.rows.typed.PeriodRow.{PeriodRow}
-use Rattle.bor_store_sql.proofs.BothReads.{of_first}
+use Rattle.bor_store_sql.proofs.Finding.{of_first}
 use Rattle.bor_store_sql.specs.Found.{ReadsOnly}
 use Rattle.bor_store.specs.Tables.{of_tables}
 use Rattle.bor_store.specs.Migrating.{FilesSay}
@@ -39,30 +39,14 @@ moves_legal old mid new days given is reads says sound stops =
 
 -- what a change of a keep's tables leaves
 pub keep_leaves : {K : Type 0} (state_of : K → State) (faults : K → ℕ) (old new : K) (before after : State) → before ≡ state_of old → state_of new ≡ after → (HasCleanDisk after → HasCleanDisk before) → (IsClean after → IsClean before)
-    → (Made : Trees → Type 0) → LeavesAtMost Made before after → (change : Register → Register) → (IsClean before → (r : Register) → ShowsIn r before → (trees : Trees) → Made trees → Stands (change r) trees)
-    → Leaves (of_tables state_of faults) old new (λ r trees. Stands (change r) trees)
-keep_leaves state_of faults old new before after begins ends sound began Made stops change so = record {
+    → (Made : Trees → Type 0) → LeavesAtMost Made before after → (Left : Register → Trees → Type 0) → ((r : Register) → ShowsIn r before → (trees : Trees) → Made trees → Left r trees) → Leaves (of_tables state_of faults) old new Left
+keep_leaves state_of faults old new before after begins ends sound began Made stops Left so = record {
   began = λ clean. subst IsClean begins (began (subst IsClean ends clean));
   sound = λ clean. subst HasCleanDisk begins (sound (subst HasCleanDisk ends clean));
   stops = λ clean trees may.
-      subst (λ s. s.may_leave trees ⊎ (IsClean s × ((r : Register) → ShowsIn r s → Stands (change r) trees))) begins
+      subst (λ s. s.may_leave trees ⊎ (IsClean s × ((r : Register) → ShowsIn r s → Left r trees))) begins
       (elim (stops (subst HasCleanDisk ends clean) trees (subst (λ s. s.may_leave trees) ends may)) [
         | inl was ↦ inl was
-        | inr made ↦ inr (made.0, λ r shows. so made.0 r shows trees made.1)
-      ]);
-}
-
--- the same, told of those registers alone that the change fits
-pub keep_leaves_where : {K : Type 0} (state_of : K → State) (faults : K → ℕ) (old new : K) (before after : State) → before ≡ state_of old → state_of new ≡ after → (HasCleanDisk after → HasCleanDisk before) → (IsClean after → IsClean before)
-    → (Made : Trees → Type 0) → LeavesAtMost Made before after → (Fits : Register → Type 0) (change : Register → Register) → ((r : Register) → ShowsIn r before → Fits r → (trees : Trees) → Made trees → Stands (change r) trees)
-    → Leaves (of_tables state_of faults) old new (λ r trees. Fits r → Stands (change r) trees)
-keep_leaves_where state_of faults old new before after begins ends sound began Made stops Fits change so = record {
-  began = λ clean. subst IsClean begins (began (subst IsClean ends clean));
-  sound = λ clean. subst HasCleanDisk begins (sound (subst HasCleanDisk ends clean));
-  stops = λ clean trees may.
-      subst (λ s. s.may_leave trees ⊎ (IsClean s × ((r : Register) → ShowsIn r s → Fits r → Stands (change r) trees))) begins
-      (elim (stops (subst HasCleanDisk ends clean) trees (subst (λ s. s.may_leave trees) ends may)) [
-        | inl was ↦ inl was
-        | inr made ↦ inr (made.0, λ r shows fits. so r shows fits trees made.1)
+        | inr made ↦ inr (made.0, λ r shows. so r shows trees made.1)
       ]);
 }

@@ -1,35 +1,31 @@
 -- The database after the texts that make the tables and their indexes, whatever stands in it.
-use Rattle.std.proofs.Common.{◌≤◌, ◌≡◌, ◌+◌, ℕ, Bool, true, false, ◌&&◌, ◌||◌, IsTrue, List, [], ◌∷◌, ◌++◌, append-nil, length, zero, suc, slice_get, None, Some, Option, MatchBool, Ok, inl, inr, refl, sym, ap, subst, ◌∙◌, arith}
+use Rattle.std.proofs.Common.{◌≤◌, ◌≡◌, ◌+◌, ℕ, Bool, true, false, ◌&&◌, ◌||◌, IsTrue, List, [], ◌∷◌, ◌++◌, append-nil, length, zero, suc, slice_get, None, Some, MatchBool, Ok, inl, inr, refl, sym, ap, subst, ◌∙◌, arith}
 use Rattle.std.specs.List.{AllByRecursion, list_any}
 use Rattle.sqlite.specs.Change.{created, next_tree}
-use Rattle.sqlite.specs.Command.{Command}
 use Rattle.sqlite.specs.Command.TheVariants.{CreateTable}
 use Rattle.sqlite.specs.Compile.{table_defined_by}
-use Rattle.sqlite.specs.Does.{Tally, AtPlace, Defines, MakesTable, MakesIndex, lacks_sequence, sequence_text}
+use Rattle.sqlite.specs.Does.{Tally, Defines, MakesTable, MakesIndex, lacks_sequence, sequence_text}
 use Rattle.sqlite.specs.Effect.{Database}
-use Rattle.sqlite.specs.Listing.{understood}
 use Rattle.sqlite.specs.Order.{Row}
-use Rattle.sqlite.specs.Rows.{Part, Gives}
+use Rattle.sqlite.specs.Rows.{Gives}
 use Rattle.sqlite.specs.Schema.{Schema}
-use Rattle.sqlite.specs.State.{State, Executes, ExecutesIn, Runs, mode_of}
+use Rattle.sqlite.specs.State.{State, Executes, Runs, mode_of}
 use Rattle.sqlite.specs.Table.{Table}
-use Rattle.sqlite.proofs.Callers.{IsPlain, command_of, statement_of, runs_as}
 use Rattle.sqlite_catalog.specs.Change.{automatics, indexed, is_used}
 use Rattle.sqlite_catalog.specs.Listing.{automatic}
 use Rattle.sqlite_rules.specs.Lists.{Has}
 use Rattle.sqlite_rules.proofs.ListLemmas.{all_from, has_either, has_right}
 use Rattle.sqlite_catalog.proofs.StepLemmas.{index_below, no_index, no_table, same_itself, table_below}
-use Rattle.sqlite_resolve.specs.Compile.{first, index_defined_by}
-use Rattle.sqlite_resolve.specs.declared.compiled.Compiled.{Compiled}
+use Rattle.sqlite_resolve.specs.Compile.{index_defined_by}
 use Rattle.sqlite_schema.specs.Names.{same_name, table_named}
 use Rattle.sqlite_schema.specs.declared.schema.Index.{Index}
-use Rattle.bor_store_sql.specs.Beside.{Adds, AddsIndexes, HasIndex, HasTable, IsIndexMade, IsTableMade, IsOfKey, MakesOnly, Spares, blank, counts_rows}
+use Rattle.bor_store_sql.specs.Beside.{Adds, HasIndex, HasTable, IsIndexMade, IsTableMade, IsOfKey, MakesOnly, Spares, blank, counts_rows}
 use Rattle.bor_store_sql.proofs.Creating.{none_kept}
-use Rattle.bor_store_sql.proofs.AnySchema.{IsIndexOf, Makes, Means, Reads, indexing_means, making_means}
+use Rattle.bor_store_sql.proofs.AnySchema.{IsIndexOf, indexing_means, making_means, placed, runs_so}
 use Rattle.bor_store_sql.proofs.Inserts.{same_value, went}
-use Rattle.bor_store_sql.proofs.OnTexts.TextsAlone.{IsIndexText, counted_in, sequence_uncounted}
+use Rattle.bor_store_sql.proofs.OnTexts.TextsAlone.{IsIndexText, counted_in, sequence_uncounted, IsTableText}
 use Rattle.bor_store_sql.proofs.Unread.{unread}
-use Rattle.bor_store_sql.proofs.Standing.{found_last, got_last, only_all, spares_all, table_still}
+use Rattle.bor_store_sql.proofs.Standing.{found_last, got_last, only_all, spares_all, table_still, AddsIndexes}
 
 -- ---- a table
 
@@ -154,32 +150,18 @@ first_true false b h = h
 
 -- ---- a text that is run
 
--- what a text is understood as that was run
-understood_as : (P : Compiled → Type 0) (sql : List ℕ) (params : Row) (old new : State) (count : ℕ) → ((c : Compiled) → understood old.now.schema sql ≡ Ok c → P c)
-    → Executes sql params old new (Ok count) → (c : Compiled) × (understood old.now.schema sql ≡ Ok c) × P c
-unfolding ExecutesIn
-understood_as P sql params old new count means h = (h.0, h.1.is, means h.0 h.1.is)
-
--- it runs as what its command does
-runs_so : (Is : Command → Type 0) (text : List ℕ) (old new : State) (count : ℕ) → ((c : Compiled) → understood old.now.schema text ≡ Ok c → Means Is text c)
-    → Executes text [] old new (Ok count) → (k : Command) × Is k × Runs old new None k text [] count
-runs_so Is text old new count means h =
-    let it = understood_as (Means Is text) text [] old new count means h in
-    let ran = runs_as text [] old new old.now.schema refl it.0.command (ap command_of it.1) (subst IsPlain (sym it.1) it.2.plain) count h in
-    (it.0.command, it.2.command, subst (λ t. Runs old new None it.0.command t [] count) (ap (statement_of text) it.1 ∙ it.2.whole) ran)
-
-module _ (text : List ℕ) (table : Table) (is : Reads Makes text (first text)) (defined : table_defined_by text ≡ Ok table) (uncounted : table.is_counted ≡ false) where
+module _ (text : List ℕ) (table : Table) (is : IsTableText text table) (uncounted : table.is_counted ≡ false) where
   pub table_beside : (old new : State) (count : ℕ) → Executes text [] old new (Ok count) → Adds (blank table ∷ []) [] old.now new.now
   table_beside old new count h =
-      let ran = runs_so (λ k. k ≡ CreateTable) text old new count (λ c. making_means old.now.schema text c is) h in
+      let ran = runs_so (λ k. k ≡ CreateTable) text old new count (λ c. making_means old.now.schema text c is.reads) h in
       let w = subst (λ k. Runs old new None k text [] count) ran.1 ran.2 in
       let all = went w.changed in
       let mid = went all.1 in
       let now : new.now ≡ all.0 = ap (λ (p : Tally × Database). p.1) (same_value all.2) in
       let counts = then_counts (lacks_sequence mid.0.schema) mid.0 all.0 mid.2 in
-      let there = table_still mid.0 all.0 table (next_tree old.now.schema) [] counts (table_adds text table old.now mid.0 defined mid.1) in
+      let there = table_still mid.0 all.0 table (next_tree old.now.schema) [] counts (table_adds text table old.now mid.0 is.defined mid.1) in
       let spares = table_spares text old.now mid.0 mid.1 in
-      let only = only_all old.now mid.0 all.0 spares counts (table ∷ []) [] [] [] (made_only text table old.now mid.0 uncounted defined mid.1) (then_only (lacks_sequence mid.0.schema) mid.0 all.0 (first_true _ _) mid.2) in
+      let only = only_all old.now mid.0 all.0 spares counts (table ∷ []) [] [] [] (made_only text table old.now mid.0 uncounted is.defined mid.1) (then_only (lacks_sequence mid.0.schema) mid.0 all.0 (first_true _ _) mid.2) in
       record {
         sound = w.sound;
         spares = subst (Spares old.now) (sym now) (spares_all old.now mid.0 all.0 spares counts);
@@ -198,9 +180,6 @@ index_spares text old after table made = record {
   views = ap (λ (s : Schema). s.views) made.is;
   rows = made.rows;
 }
-
-placed : {X A : Type 0} (P : X → Part A) (o : Option X) (x : X) → o ≡ Some x → (a : A) → AtPlace P o (Ok a) → P x (Ok a)
-placed P o x is a h = subst (λ p. AtPlace P p (Ok a)) is h
 
 index_there : (text : List ℕ) (table : Table) (index : Index) (old after : Database) (at tree : ℕ) (on : Table) → index_defined_by (record table { tree = tree }) text ≡ Ok (record index { tree = 0; table = tree })
     → MakesIndex text old on (Ok after) → table_named old.schema table.name ≡ Some at → slice_get old.schema.tables at ≡ Some on → (rows : List Row) → HasTable old table tree rows → HasIndex after.schema table index

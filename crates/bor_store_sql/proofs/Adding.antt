@@ -9,7 +9,8 @@ use Rattle.bods_read.specs.Words.{status_word}
 use Rattle.bor_register.specs.declared.filing.AcceptedFiling.{AcceptedFiling}
 use Rattle.bor_register.specs.declared.member.Member.{Member}
 use Rattle.bor_store_sql.specs.Texts.Tables.{keep_schema, agent_at, filing_at, filing_table, statement_at, statement_table, interest_at, interest_table, identifier_at, identifier_table, period_at, period_table}
-use Rattle.bor_store_sql.specs.Texts.Changes.{insert_agent_text, insert_agent_terms, insert_filing_text, insert_filing_terms, insert_statement_text, insert_statement_terms, insert_interest_text, insert_interest_terms, insert_identifier_text, insert_identifier_terms, insert_period_text, insert_period_terms}
+use Rattle.bor_store_sql.specs.Texts.Changes.{insert_agent_terms, insert_filing_terms, insert_statement_terms, insert_interest_terms, insert_identifier_terms, insert_period_terms}
+use Rattle.bor_store_sql.specs.declared.texts.changes.TheConstants.{INSERT_AGENT, INSERT_FILING, INSERT_STATEMENT, INSERT_INTEREST, INSERT_IDENTIFIER, INSERT_PERIOD}
 use Rattle.bor_store_sql.proofs.OnTexts.ChangeMeanings.{insert_agent_is, insert_filing_is, insert_statement_is, insert_interest_is, insert_identifier_is, insert_period_is}
 use Rattle.bor_store_sql.specs.declared.rows.typed.Part.{Part}
 use Rattle.bor_store_sql.specs.declared.rows.typed.Part.TheVariants as part
@@ -23,7 +24,7 @@ use Rattle.bor_store_sql.proofs.Moves.{Making}
 use Rattle.bor_store_sql.specs.Changing.{Any, live_filing, given_filing, with_agent_row, with_filing_row, with_statement_row, with_interest_rows, with_identifier_rows, with_period_row}
 use Rattle.bor_store_sql.proofs.Inserts.{inserts, cast_int, cast_null}
 use Rattle.bor_store_sql.proofs.Tables.{one_more}
-use Rattle.bor_store_sql.proofs.Others.{with_agents, with_filings, with_statements, with_interests, with_identifiers, with_periods}
+use Rattle.bor_store_sql.proofs.Others.{one_changed}
 
 -- a nullable text column keeps a text and a null
 text_kept : (o : Option (List ℕ)) → cast Words (or_null o) ≡ or_null o
@@ -75,38 +76,38 @@ day_kept (Some day) = cast_int day
 period_kept : (p : PeriodRow) → cast_all period_table.columns (period_columns p) ≡ period_columns p
 period_kept p = rw (cast_int (pos p.at.filing), cast_int (pos p.at.place), cast_int (pos p.item), day_kept p.starts, day_kept p.ends) refl
 
-pub agent_put : (m : Member) → Making insert_agent_text (agent_columns m) (ChangesContents Any (with_agent_row (agent_columns m)))
+pub agent_put : (m : Member) → Making INSERT_AGENT.now (agent_columns m) (ChangesContents Any (with_agent_row (agent_columns m)))
 agent_put m old new count h t has fit =
-    let made = inserts insert_agent_text (agent_columns m) keep_schema 1 insert_agent_terms 3 agent_at (agent_columns m) insert_agent_is.0 insert_agent_is.1 refl refl refl refl refl (λ new. refl) old new count has.schema h in
-    with_agents t old.now new.now made.sound made.schema_is has made.others _ (rw made.rows (one_more t.agents (old.now.trees 2) (agent_columns m) has.agents))
+    let made = inserts INSERT_AGENT.now (agent_columns m) keep_schema 1 insert_agent_terms 3 agent_at (agent_columns m) insert_agent_is.0 insert_agent_is.1 refl refl refl refl refl (λ new. refl) old new count has.schema h in
+    one_changed 2 old.now new.now made.others _ (rw made.rows (one_more t.agents (old.now.trees 2) (agent_columns m) has.agents)) t made.sound made.schema_is has
 
-pub filing_put : (agent : List ℕ) (number : ℕ) (key : List ℕ) (due : ℤ) (bytes : List ℕ) → Making insert_filing_text (given_filing agent number key due bytes) (ChangesContents Any (with_filing_row agent (live_filing number key due bytes [])))
+pub filing_put : (agent : List ℕ) (number : ℕ) (key : List ℕ) (due : ℤ) (bytes : List ℕ) → Making INSERT_FILING.now (given_filing agent number key due bytes) (ChangesContents Any (with_filing_row agent (live_filing number key due bytes [])))
 filing_put agent number key due bytes old new count h t has fit =
     let f = live_filing number key due bytes [] in
     let x = filing_columns agent f in
-    let made = inserts insert_filing_text (given_filing agent number key due bytes) keep_schema 2 insert_filing_terms 7 filing_at x insert_filing_is.0 insert_filing_is.1 refl refl refl refl (filing_kept agent f) (λ new. refl) old new count has.schema h in
-    with_filings t old.now new.now made.sound made.schema_is has made.others _ (rw made.rows (one_more t.filings (old.now.trees 5) x has.filings))
+    let made = inserts INSERT_FILING.now (given_filing agent number key due bytes) keep_schema 2 insert_filing_terms 7 filing_at x insert_filing_is.0 insert_filing_is.1 refl refl refl refl (filing_kept agent f) (λ new. refl) old new count has.schema h in
+    one_changed 5 old.now new.now made.others _ (rw made.rows (one_more t.filings (old.now.trees 5) x has.filings)) t made.sound made.schema_is has
 
-pub statement_put : (s : StatementRow) → Making insert_statement_text (statement_columns s) (ChangesContents Any (with_statement_row s))
+pub statement_put : (s : StatementRow) → Making INSERT_STATEMENT.now (statement_columns s) (ChangesContents Any (with_statement_row s))
 statement_put s old new count h t has fit =
-    let made = inserts insert_statement_text (statement_columns s) keep_schema 3 insert_statement_terms 14 statement_at (statement_columns s) insert_statement_is.0 insert_statement_is.1 refl refl refl
+    let made = inserts INSERT_STATEMENT.now (statement_columns s) keep_schema 3 insert_statement_terms 14 statement_at (statement_columns s) insert_statement_is.0 insert_statement_is.1 refl refl refl
     (statement_given s) (statement_kept s) (λ new. refl) old new count has.schema h in
-    with_statements t old.now new.now made.sound made.schema_is has made.others _ (rw made.rows (one_more t.statements (old.now.trees 8) (statement_columns s) has.statements))
+    one_changed 8 old.now new.now made.others _ (rw made.rows (one_more t.statements (old.now.trees 8) (statement_columns s) has.statements)) t made.sound made.schema_is has
 
-pub interest_put : (i : InterestRow) → Making insert_interest_text (interest_columns i) (ChangesContents Any (with_interest_rows (i ∷ [])))
+pub interest_put : (i : InterestRow) → Making INSERT_INTEREST.now (interest_columns i) (ChangesContents Any (with_interest_rows (i ∷ [])))
 interest_put i old new count h t has fit =
-    let made = inserts insert_interest_text (interest_columns i) keep_schema 4 insert_interest_terms 11 interest_at (interest_columns i) insert_interest_is.0 insert_interest_is.1 refl refl refl
+    let made = inserts INSERT_INTEREST.now (interest_columns i) keep_schema 4 insert_interest_terms 11 interest_at (interest_columns i) insert_interest_is.0 insert_interest_is.1 refl refl refl
     (interest_given i) (interest_kept i) (λ new. refl) old new count has.schema h in
-    with_interests t old.now new.now made.sound made.schema_is has made.others _ (rw made.rows (one_more t.interests (old.now.trees 11) (interest_columns i) has.interests))
+    one_changed 11 old.now new.now made.others _ (rw made.rows (one_more t.interests (old.now.trees 11) (interest_columns i) has.interests)) t made.sound made.schema_is has
 
-pub identifier_put : (i : IdentifierRow) → Making insert_identifier_text (identifier_columns i) (ChangesContents Any (with_identifier_rows (i ∷ [])))
+pub identifier_put : (i : IdentifierRow) → Making INSERT_IDENTIFIER.now (identifier_columns i) (ChangesContents Any (with_identifier_rows (i ∷ [])))
 identifier_put i old new count h t has fit =
-    let made = inserts insert_identifier_text (identifier_columns i) keep_schema 5 insert_identifier_terms 7 identifier_at (identifier_columns i) insert_identifier_is.0 insert_identifier_is.1 refl refl refl
+    let made = inserts INSERT_IDENTIFIER.now (identifier_columns i) keep_schema 5 insert_identifier_terms 7 identifier_at (identifier_columns i) insert_identifier_is.0 insert_identifier_is.1 refl refl refl
     refl (identifier_kept i) (λ new. refl) old new count has.schema h in
-    with_identifiers t old.now new.now made.sound made.schema_is has made.others _ (rw made.rows (one_more t.identifiers (old.now.trees 13) (identifier_columns i) has.identifiers))
+    one_changed 13 old.now new.now made.others _ (rw made.rows (one_more t.identifiers (old.now.trees 13) (identifier_columns i) has.identifiers)) t made.sound made.schema_is has
 
-pub period_put : (p : PeriodRow) → Making insert_period_text (period_columns p) (ChangesContents Any (with_period_row p))
+pub period_put : (p : PeriodRow) → Making INSERT_PERIOD.now (period_columns p) (ChangesContents Any (with_period_row p))
 period_put p old new count h t has fit =
-    let made = inserts insert_period_text (period_columns p) keep_schema 6 insert_period_terms 7 period_at (period_columns p) insert_period_is.0 insert_period_is.1 refl refl refl
+    let made = inserts INSERT_PERIOD.now (period_columns p) keep_schema 6 insert_period_terms 7 period_at (period_columns p) insert_period_is.0 insert_period_is.1 refl refl refl
     refl (period_kept p) (λ new. refl) old new count has.schema h in
-    with_periods t old.now new.now made.sound made.schema_is has made.others _ (rw made.rows (one_more t.periods (old.now.trees 19) (period_columns p) has.periods))
+    one_changed 19 old.now new.now made.others _ (rw made.rows (one_more t.periods (old.now.trees 19) (period_columns p) has.periods)) t made.sound made.schema_is has

@@ -5,7 +5,7 @@ use Rattle.std.specs.List.{AllByRecursion}
 use Rattle.std.proofs.lemmas.Bool.Decides.{nat_tests}
 use Rattle.std.proofs.lemmas.List.Elements.{All-nil, All-cons, All-head, All-tail}
 use Rattle.bor_terms.specs.Texts.{is_same}
-use Rattle.bor_terms.proofs.Texts.{same_is, same_refl, same_sym}
+use Rattle.bor_terms.proofs.Texts.{same_is, same_sym}
 use Rattle.bor_register.specs.Register.{Register, filings_of}
 use Rattle.bor_register.specs.declared.member.Member.{Member}
 use Rattle.bor_store_sql.specs.Rows.Placed.{AreApart, placed, placed_by, same_place}
@@ -13,14 +13,12 @@ use Rattle.bor_store_sql.specs.Rows.Stored.{IsStored}
 use Rattle.bor_store_sql.specs.declared.rows.places.At.{At}
 use Rattle.bor_store_sql.specs.declared.rows.typed.Placed.{Placed}
 use Rattle.bor_store_sql.proofs.OnRows.Apart.{all_apart}
-use Rattle.bor_store_sql.proofs.OnRows.Numbers.{same_number}
 use Rattle.bor_store_sql.specs.Selected.{placed_of}
+use Rattle.bor_store_sql.proofs.OnRows.Joins.{at_itself}
+use Rattle.sqlite_keyed.proofs.ListLemmas.{filter_none}
 
 number_turned : (n m : ℕ) → (n == m) ≡ (m == n)
 number_turned n m = grind (arith, nat_tests)
-
-same_itself : (at : At) → same_place at at ≡ true
-same_itself at = rw (same_refl at.agent, same_number at.filing, same_number at.place) refl
 
 place_turned : (a b : At) → same_place a b ≡ same_place b a
 place_turned a b = rw (same_sym a.agent b.agent, number_turned a.filing b.filing, number_turned a.place b.place) refl
@@ -28,10 +26,6 @@ place_turned a b = rw (same_sym a.agent b.agent, number_turned a.filing b.filing
 -- the statement alone stands at its place
 abbrev pub IsAlone : List Placed → Placed → Type 0
 IsAlone ps p = filter (λ (q : Placed). same_place q.at p.at) ps ≡ p ∷ []
-
-none_at : (at : At) (ps : List Placed) → AllByRecursion (λ (q : Placed). same_place q.at at ≡ false) ps → filter (λ (q : Placed). same_place q.at at) ps ≡ []
-none_at at [] h = refl
-none_at at (p ∷ ps) h = rw h.0 (none_at at ps h.1)
 
 still_alone : (p : Placed) (ps qs : List Placed) → AllByRecursion (λ (q : Placed). same_place q.at p.at ≡ false) qs → All (IsAlone ps) qs → All (IsAlone (p ∷ ps)) qs
 still_alone p ps [] off h = All-nil (IsAlone (p ∷ ps))
@@ -41,7 +35,7 @@ still_alone p ps (q ∷ qs) off h =
 pub each_alone : (ps : List Placed) → AreApart ps → All (IsAlone ps) ps
 each_alone [] h = All-nil (IsAlone [])
 each_alone (p ∷ ps) h =
-    All-cons (IsAlone (p ∷ ps)) p ps (rw (same_itself p.at) (ap (λ l. p ∷ l) (none_at p.at ps h.0))) (still_alone p ps ps h.0 (each_alone ps h.1))
+    All-cons (IsAlone (p ∷ ps)) p ps (rw (at_itself p.at) (ap (λ l. p ∷ l) (filter_none (λ (q : Placed). same_place q.at p.at) ps h.0))) (still_alone p ps ps h.0 (each_alone ps h.1))
 
 -- ---- an agent's statements
 

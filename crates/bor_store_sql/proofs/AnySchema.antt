@@ -1,13 +1,13 @@
 -- The meanings of the texts that make the tables and put down the register's row, whatever the schema.
 use Rattle.std.specs.Option.{option_or}
-use Rattle.std.proofs.Common.{not, length, ◌==◌, ◌&&◌, ◌≡◌, ◌⊎◌, inl, inr, ℕ, ◌+◌, Bool, true, false, cond, List, [], ◌∷◌, slice_range, Option, None, Some, slice_get, Ok, Err, Result, is_some, true≢false, refl, sym, ap, subst, ◌∙◌}
-use Rattle.sqlite.proofs.Callers.{IsPlain}
+use Rattle.std.proofs.Common.{not, length, ◌==◌, ◌&&◌, ◌≡◌, ◌⊎◌, inl, inr, ℕ, ◌+◌, Bool, true, false, cond, List, [], slice_range, Option, None, Some, slice_get, Ok, Err, Result, is_some, true≢false, refl, sym, ap, subst, ◌∙◌}
+use Rattle.sqlite.proofs.Callers.{IsPlain, command_of, statement_of, runs_as}
 use Rattle.sqlite.specs.Command.{Command}
 use Rattle.sqlite.specs.Command.TheVariants.{CreateTable, CreateIndex, Insert, Nothing}
 use Rattle.sqlite.specs.Source.{Source}
 use Rattle.sqlite.specs.Listing.{understood, listing_schema, if_select, misses_table, is_select}
 use Rattle.sqlite.specs.Schema.{Schema}
-use Rattle.sqlite.specs.State.{text_of}
+use Rattle.sqlite.specs.State.{text_of, State, Executes, ExecutesIn, Runs}
 use Rattle.sqlite.specs.Table.{Table}
 use Rattle.sqlite_ast.specs.declared.CreateTable.{CreateTable as CreateTableText}
 use Rattle.sqlite_ast.specs.declared.CreateIndex.{CreateIndex as CreateIndexText}
@@ -24,18 +24,19 @@ use Rattle.sqlite_resolve.specs.declared.error.CompileError.{CompileError}
 use Rattle.sqlite_resolve.specs.declared.error.CompileError.TheVariants.{NoSuchTable, Misuse, Exists, Unsupported}
 use Rattle.sqlite_schema.specs.Names.{table_named, index_named, view_named}
 use Rattle.sqlite_syntax.specs.declared.statement.Parsed.{Parsed}
+use Rattle.sqlite.specs.Order.{Row}
+use Rattle.sqlite.specs.Does.{AtPlace}
+use Rattle.sqlite.specs.Rows.{Part}
 
 -- ---- what texts are
 
 -- it makes a table, and no other is to be left in its place
 abbrev pub Makes : Statement → Type 0
-Makes (written.CreateTable def) = def.if_missing ≡ false
-Makes _ = ⊥
+Makes s = (def : CreateTableText) × (s ≡ written.CreateTable def) × (def.if_missing ≡ false)
 
 -- the same of an index of a table of this name
 abbrev pub Indexes : List ℕ → Statement → Type 0
-Indexes name (written.CreateIndex def) = (def.if_missing ≡ false) × (def.table ≡ name)
-Indexes name _ = ⊥
+Indexes name s = (def : CreateIndexText) × (s ≡ written.CreateIndex def) × (def.if_missing ≡ false) × (def.table ≡ name)
 
 -- the text is one such statement, and nothing else
 abbrev pub Reads : (Statement → Type 0) → List ℕ → Result Parsed CompileError → Type 0
@@ -117,57 +118,29 @@ of_command Is text p (Ok k) c is whole h none =
     let same : with_command p (p.formats, (k, None)) ≡ c = cc in
     subst (Means Is text) same (record { command = is k refl; plain = (refl, none); whole = whole })
 
-of_making : (schema : Schema) (text : List ℕ) (p : Parsed) (s : Statement) (c : Compiled) → Makes s → slice_range text p.start p.end ≡ text
-    → and_then (planned schema (record p { statement = s })) (λ plan. Ok (with_command (record p { statement = s }) plan)) ≡ Ok c → Means (λ k. k ≡ CreateTable) text c
-unfolding planned meaning returning command timed
-of_making schema text p (written.CreateTable def) c makes whole h =
-    of_command (λ k. k ≡ CreateTable) text (record p { statement = written.CreateTable def; formats = [] }) (create_table schema p.formats def) c (λ k. new_alone schema p.formats def k makes) whole h refl
-of_making schema text p written.Empty c makes whole h = absurd makes
-of_making schema text p (written.Select x1) c makes whole h = absurd makes
-of_making schema text p (written.Insert x1 x2 x3 x4 x5 x6) c makes whole h = absurd makes
-of_making schema text p (written.Update x1 x2 x3 x4) c makes whole h = absurd makes
-of_making schema text p (written.Delete x1 x2 x3) c makes whole h = absurd makes
-of_making schema text p (written.Pragma x1 x2) c makes whole h = absurd makes
-of_making schema text p (written.CreateIndex x1) c makes whole h = absurd makes
-of_making schema text p (written.CreateView x1 x2 x3 x4) c makes whole h = absurd makes
-of_making schema text p (written.DropTable x1 x2) c makes whole h = absurd makes
-of_making schema text p (written.DropIndex x1 x2) c makes whole h = absurd makes
-of_making schema text p (written.DropView x1 x2) c makes whole h = absurd makes
-of_making schema text p written.Begin c makes whole h = absurd makes
-of_making schema text p written.Commit c makes whole h = absurd makes
-of_making schema text p written.Rollback c makes whole h = absurd makes
-of_making schema text p (written.Savepoint x1) c makes whole h = absurd makes
-of_making schema text p (written.Release x1) c makes whole h = absurd makes
-of_making schema text p (written.RollbackTo x1) c makes whole h = absurd makes
+-- what is understood of a statement that was read
+abbrev compiled_of : Schema → Parsed → Result Compiled CompileError
+compiled_of schema p = and_then (planned schema p) (λ plan. Ok (with_command p plan))
 
-of_indexing : (schema : Schema) (name text : List ℕ) (p : Parsed) (s : Statement) (c : Compiled) → Indexes name s → slice_range text p.start p.end ≡ text → p.formats ≡ []
-    → and_then (planned schema (record p { statement = s })) (λ plan. Ok (with_command (record p { statement = s }) plan)) ≡ Ok c → Means (IsIndexOf schema name) text c
+of_making : (schema : Schema) (text : List ℕ) (p : Parsed) (s : Statement) (c : Compiled) → Makes s → slice_range text p.start p.end ≡ text → compiled_of schema (record p { statement = s }) ≡ Ok c
+    → Means (λ k. k ≡ CreateTable) text c
 unfolding planned meaning returning command timed
-of_indexing schema name text p (written.CreateIndex def) c makes whole none h =
-    of_command (IsIndexOf schema name) text (record p { statement = written.CreateIndex def }) (create_index schema def) c (λ k. index_alone schema name def k makes.0 makes.1) whole h none
-of_indexing schema name text p written.Empty c makes whole none h = absurd makes
-of_indexing schema name text p (written.Select x1) c makes whole none h = absurd makes
-of_indexing schema name text p (written.Insert x1 x2 x3 x4 x5 x6) c makes whole none h = absurd makes
-of_indexing schema name text p (written.Update x1 x2 x3 x4) c makes whole none h = absurd makes
-of_indexing schema name text p (written.Delete x1 x2 x3) c makes whole none h = absurd makes
-of_indexing schema name text p (written.Pragma x1 x2) c makes whole none h = absurd makes
-of_indexing schema name text p (written.CreateTable x1) c makes whole none h = absurd makes
-of_indexing schema name text p (written.CreateView x1 x2 x3 x4) c makes whole none h = absurd makes
-of_indexing schema name text p (written.DropTable x1 x2) c makes whole none h = absurd makes
-of_indexing schema name text p (written.DropIndex x1 x2) c makes whole none h = absurd makes
-of_indexing schema name text p (written.DropView x1 x2) c makes whole none h = absurd makes
-of_indexing schema name text p written.Begin c makes whole none h = absurd makes
-of_indexing schema name text p written.Commit c makes whole none h = absurd makes
-of_indexing schema name text p written.Rollback c makes whole none h = absurd makes
-of_indexing schema name text p (written.Savepoint x1) c makes whole none h = absurd makes
-of_indexing schema name text p (written.Release x1) c makes whole none h = absurd makes
-of_indexing schema name text p (written.RollbackTo x1) c makes whole none h = absurd makes
+of_making schema text p s c (def, is, missing) whole h =
+    of_command (λ k. k ≡ CreateTable) text (record p { statement = written.CreateTable def; formats = [] }) (create_table schema p.formats def) c (λ k. new_alone schema p.formats def k missing) whole
+    (subst (λ s. compiled_of schema (record p { statement = s }) ≡ Ok c) is h) refl
+
+of_indexing : (schema : Schema) (name text : List ℕ) (p : Parsed) (s : Statement) (c : Compiled) → Indexes name s → slice_range text p.start p.end ≡ text → p.formats ≡ [] → compiled_of schema (record p { statement = s }) ≡ Ok c
+    → Means (IsIndexOf schema name) text c
+unfolding planned meaning returning command timed
+of_indexing schema name text p s c (def, is, missing, on) whole none h =
+    of_command (IsIndexOf schema name) text (record p { statement = written.CreateIndex def }) (create_index schema def) c (λ k. index_alone schema name def k missing on) whole
+    (subst (λ s. compiled_of schema (record p { statement = s }) ≡ Ok c) is h) none
 
 compiled_making : (schema : Schema) (text : List ℕ) (c : Compiled) → Reads Makes text (first text) → compiled schema text ≡ Ok c → Means (λ k. k ≡ CreateTable) text c
 unfolding compiled
 compiled_making schema text c = go (first text)
   where
-    go : (r : Result Parsed CompileError) → Reads Makes text r → and_then r (λ p. and_then (planned schema p) (λ plan. Ok (with_command p plan))) ≡ Ok c → Means (λ k. k ≡ CreateTable) text c
+    go : (r : Result Parsed CompileError) → Reads Makes text r → and_then r (compiled_of schema) ≡ Ok c → Means (λ k. k ≡ CreateTable) text c
     go (Ok p) is h = of_making schema text p p.statement c is.0 is.1 h
     go (Err e) is h = absurd is
 
@@ -180,7 +153,7 @@ compiled_indexing : (schema : Schema) (name text : List ℕ) (c : Compiled) → 
 unfolding compiled
 compiled_indexing schema name text c = go (first text)
   where
-    go : (r : Result Parsed CompileError) → Reads (Indexes name) text r → untimed r ≡ [] → and_then r (λ p. and_then (planned schema p) (λ plan. Ok (with_command p plan))) ≡ Ok c → Means (IsIndexOf schema name) text c
+    go : (r : Result Parsed CompileError) → Reads (Indexes name) text r → untimed r ≡ [] → and_then r (compiled_of schema) ≡ Ok c → Means (IsIndexOf schema name) text c
     go (Ok p) is none h = of_indexing schema name text p p.statement c is.0 is.1 none h
     go (Err e) is none h = absurd is
 
@@ -218,9 +191,9 @@ indexing_means schema name text c is none h = elim (understood_so schema text c 
 
 -- It puts down what is given here, in a table of this name, and nothing else. The parameters end at a place.
 abbrev pub PutsDown : Table → Source → ℕ → Statement → Type 0
-PutsDown table source base (written.Insert conflict.Abort name columns rows [] []) =
-    (name ≡ table.name) × ((schema : Schema) (tree : ℕ) → new_rows schema (record table { tree = tree }) base columns rows ≡ Ok source)
-PutsDown table source base _ = ⊥
+PutsDown table source base s =
+    (columns : List Name) × (rows : Rows) × (s ≡ written.Insert conflict.Abort table.name columns rows [] [])
+    × ((schema : Schema) (tree : ℕ) → new_rows schema (record table { tree = tree }) base columns rows ≡ Ok source)
 
 abbrev pub IsPutting : Table → Source → Result Parsed CompileError → Type 0
 IsPutting table source (Ok p) = PutsDown table source (small p.names + small []) p.statement × (p.formats ≡ [])
@@ -240,37 +213,15 @@ module _ (schema : Schema) (table : Table) (at tree : ℕ) (source : Source) (un
   unfolding insert
   inserted_in base columns rows is = rw (named, found, is) refl
 
-  of_putting : (p : Parsed) (s : Statement) → PutsDown table source (small p.names + small []) s → p.formats ≡ []
-      → IsInsert at source (and_then (planned schema (record p { statement = s })) (λ plan. Ok (with_command (record p { statement = s }) plan)))
+  of_putting : (p : Parsed) (s : Statement) → PutsDown table source (small p.names + small []) s → p.formats ≡ [] → IsInsert at source (compiled_of schema (record p { statement = s }))
   unfolding planned meaning returning command timed shows insert_or_abort
-  of_putting p (written.Insert conflict.Abort name columns rows [] []) puts none = rw (puts.0, none, no_formats, inserted_in (small p.names + small []) columns rows (puts.1 schema tree)) (refl, (refl, refl))
-  of_putting p (written.Insert conflict.Abort name columns rows (x ∷ xs) shown) puts none = absurd puts
-  of_putting p (written.Insert conflict.Abort name columns rows [] (x ∷ xs)) puts none = absurd puts
-  of_putting p (written.Insert conflict.Ignore name columns rows clauses shown) puts none = absurd puts
-  of_putting p (written.Insert conflict.Replace name columns rows clauses shown) puts none = absurd puts
-  of_putting p written.Empty puts none = absurd puts
-  of_putting p (written.Select x1) puts none = absurd puts
-  of_putting p (written.Update x1 x2 x3 x4) puts none = absurd puts
-  of_putting p (written.Delete x1 x2 x3) puts none = absurd puts
-  of_putting p (written.Pragma x1 x2) puts none = absurd puts
-  of_putting p (written.CreateTable x1) puts none = absurd puts
-  of_putting p (written.CreateIndex x1) puts none = absurd puts
-  of_putting p (written.CreateView x1 x2 x3 x4) puts none = absurd puts
-  of_putting p (written.DropTable x1 x2) puts none = absurd puts
-  of_putting p (written.DropIndex x1 x2) puts none = absurd puts
-  of_putting p (written.DropView x1 x2) puts none = absurd puts
-  of_putting p written.Begin puts none = absurd puts
-  of_putting p written.Commit puts none = absurd puts
-  of_putting p written.Rollback puts none = absurd puts
-  of_putting p (written.Savepoint x1) puts none = absurd puts
-  of_putting p (written.Release x1) puts none = absurd puts
-  of_putting p (written.RollbackTo x1) puts none = absurd puts
+  of_putting p s (columns, rows, is, puts) none = rw (is, none, no_formats, inserted_in (small p.names + small []) columns rows (puts schema tree)) (refl, (refl, refl))
 
   compiled_putting : (text : List ℕ) → IsPutting table source (first text) → IsInsert at source (compiled schema text)
   unfolding compiled
   compiled_putting text = go (first text)
     where
-      go : (r : Result Parsed CompileError) → IsPutting table source r → IsInsert at source (and_then r (λ p. and_then (planned schema p) (λ plan. Ok (with_command p plan))))
+      go : (r : Result Parsed CompileError) → IsPutting table source r → IsInsert at source (and_then r (compiled_of schema))
       go (Ok p) is = of_putting p p.statement is.0 is.1
       go (Err e) is = absurd is
 
@@ -281,3 +232,23 @@ module _ (schema : Schema) (table : Table) (at tree : ℕ) (source : Source) (un
       go : (r : Result Compiled CompileError) → IsInsert at source r → IsInsert at source (cond (misses_table r) (if_select (compiled listing_schema text)) r)
       go (Ok c) is = is
       go (Err e) is = absurd is
+
+-- ---- a text that is run
+
+-- what a text is understood as that was run
+understood_as : (P : Compiled → Type 0) (sql : List ℕ) (params : Row) (old new : State) (count : ℕ) → ((c : Compiled) → understood old.now.schema sql ≡ Ok c → P c)
+    → Executes sql params old new (Ok count) → (c : Compiled) × (understood old.now.schema sql ≡ Ok c) × P c
+unfolding ExecutesIn
+understood_as P sql params old new count means h = (h.0, h.1.is, means h.0 h.1.is)
+
+-- it runs as what its command does
+pub runs_so : (Is : Command → Type 0) (text : List ℕ) (old new : State) (count : ℕ) → ((c : Compiled) → understood old.now.schema text ≡ Ok c → Means Is text c)
+    → Executes text [] old new (Ok count) → (k : Command) × Is k × Runs old new None k text [] count
+runs_so Is text old new count means h =
+    let it = understood_as (Means Is text) text [] old new count means h in
+    let ran = runs_as text [] old new old.now.schema refl it.0.command (ap command_of it.1) (subst IsPlain (sym it.1) it.2.plain) count h in
+    (it.0.command, it.2.command, subst (λ t. Runs old new None it.0.command t [] count) (ap (statement_of text) it.1 ∙ it.2.whole) ran)
+
+-- what was done at a place
+pub placed : {X A : Type 0} (P : X → Part A) (o : Option X) (x : X) → o ≡ Some x → (a : A) → AtPlace P o (Ok a) → P x (Ok a)
+placed P o x is a h = subst (λ p. AtPlace P p (Ok a)) is h

@@ -4,7 +4,7 @@ use Rattle.sqlite.specs.Order.{Row}
 use Rattle.sqlite.specs.State.{State, Executes}
 use Rattle.bor_store_sql.specs.Texts.Tables.{first_schema, period_table}
 use Rattle.bor_store_sql.specs.declared.texts.tables.TheConstants.{PERIOD_TABLE}
-use Rattle.bor_store_sql.proofs.OnTexts.TableMeanings.{period_is}
+use Rattle.bor_store_sql.proofs.OnTexts.TextsAlone.{period_table_text}
 use Rattle.bor_store_sql.specs.Rows.Encoding.{Contents}
 use Rattle.bor_store_sql.specs.Kept.{Keeps}
 use Rattle.bor_store_sql.specs.Shown.{Has, HasFirst}
@@ -15,7 +15,7 @@ still xs old new same keeps = subst (Keeps xs) (sym same) keeps
 
 pub period_made : (old new : State) (count : ℕ) (t : Contents) → HasFirst t old.now → Executes PERIOD_TABLE.now [] old new (Ok count) → Has (record t { periods = [] }) new.now
 period_made old new count t has h =
-    let it = table_added PERIOD_TABLE.now first_schema period_table period_is refl old new count has.schema h in
+    let it = table_added PERIOD_TABLE.now first_schema period_table period_table_text refl old new count has.schema h in
     record {
       sound = it.sound;
       schema = it.schema_is;

@@ -1,87 +1,50 @@
--- The lists that are read of tables of either version: all but the days of interests.
-use Rattle.std.proofs.Common.{◌≡◌, inl, inr, ℕ, pos, Bool, true, ◌&&◌, ◌==◌, List, [], ◌∷◌, Vec, Result, map, refl, sym, ap, ap₂, subst, ◌∙◌}
-use Rattle.std.specs.declared.alloc.Global.{Global}
+-- The rows that are read of tables of either version: all but the days of interests.
+use Rattle.std.proofs.Common.{List, [], ap, ap₂, map, pos, refl, true, ℕ, ◌&&◌, ◌==◌, ◌∙◌, ◌∷◌}
 use Rattle.std.proofs.Math.Bool.{and-true}
-use Rattle.sqlite.specs.Order.{Row}
-use Rattle.sqlite.specs.Program.{overlay}
-use Rattle.sqlite.specs.Query.{Query, IsAnswer}
-use Rattle.sqlite.specs.State.{State, Shown}
-use Rattle.sqlite.specs.declared.error.Error.{Error}
-use Rattle.sqlite.specs.declared.types.Value.TheVariants.{Null, Int, Text}
-use Rattle.sqlite.proofs.Callers.{reads_as}
-use Rattle.sqlite_keyed.proofs.ListLemmas.{ascending-filter}
+use Rattle.sqlite.specs.declared.types.Value.TheVariants.{Int, Text}
 use Rattle.bor_register.specs.Publication.{filing_shown}
-use Rattle.bor_register.specs.Register.{Register, filings_of}
-use Rattle.bor_terms.specs.Texts.{is_same}
-use Rattle.bor_store_sql.specs.Texts.Meanings.{AsksBoth}
-use Rattle.bor_store_sql.specs.Texts.Queries.{all_filings_query, all_filings_text, file_by_number_query, file_by_number_text, rising, shows_rows}
-use Rattle.bor_store_sql.proofs.OnTexts.QueryMeanings.{all_filings_both, file_by_number_both}
-use Rattle.bor_store_sql.specs.Rows.Encoding.{contents, filing_rows, line_columns, shown_columns}
-use Rattle.bor_store_sql.specs.Rows.Placed.{filing_lines, filing_row}
-use Rattle.bor_store_sql.specs.Found.{FindsRows}
-use Rattle.bor_store_sql.specs.Selected.{numbered}
-use Rattle.bor_store_sql.specs.Shown.{HasLists, IsOfVersion, ShowsFirst, ShowsIn, ShowsLists}
-use Rattle.bor_store_sql.proofs.Finding.{Gives}
-use Rattle.bor_store_sql.proofs.Orders.{IsEarlier, Owned, filing_rows_are, owned, owned_rise, whole}
-use Rattle.bor_store_sql.proofs.Picking.{all_pass, picked_rows}
-use Rattle.bor_store_sql.proofs.Selecting.{lines_are, number_test, own_filings}
+use Rattle.bor_register.specs.Register.{filings_of}
+use Rattle.bor_store_sql.proofs.Finding.{Found, asked_both, found_as}
+use Rattle.bor_store_sql.proofs.FromTables.{from_filings, from_identifiers, from_interests, from_statements, interest_shown, statement_shown}
+use Rattle.bor_store_sql.proofs.OfOne.{identifiers_stand, interests_stand, lines_are, number_test, own_filings, own_statements, place_params, place_test, rows_at}
+use Rattle.bor_store_sql.proofs.OnTexts.QueryMeanings.{all_filings_both, file_by_number_both, identifiers_of_statement_both, interests_of_statement_both, statements_of_filing_both}
+use Rattle.bor_store_sql.proofs.Orders.{Owned, owned}
+use Rattle.bor_store_sql.proofs.Picking.{all_pass}
 use Rattle.bor_store_sql.proofs.Selects.{int_test, text_test}
+use Rattle.bor_store_sql.specs.Rows.Encoding.{identifier_columns, interest_columns, line_columns, shown_columns, statement_columns}
+use Rattle.bor_store_sql.specs.Rows.Placed.{bare, filing_lines, filing_row, identifier_rows, interest_rows, placed, same_place}
+use Rattle.bor_store_sql.specs.Selected.{identifiers_at, in_filing, interests_at, numbered, placed_of}
+use Rattle.bor_store_sql.specs.Shown.{ShowsLists}
+use Rattle.bor_store_sql.specs.declared.texts.queries.TheConstants.{ALL_FILINGS, FILE_BY_NUMBER, IDENTIFIERS_OF_STATEMENT, INTERESTS_OF_STATEMENT, STATEMENTS_OF_FILING}
+use Rattle.bor_store_sql.specs.declared.rows.places.At.{At}
+use Rattle.bor_store_sql.specs.declared.rows.typed.IdentifierRow.{IdentifierRow}
+use Rattle.bor_store_sql.specs.declared.rows.typed.InterestRow.{InterestRow}
+use Rattle.bor_store_sql.specs.declared.rows.typed.Placed.{Placed}
+use Rattle.bor_terms.specs.Texts.{is_same}
 
--- ---- either version
+pub all_filings_found : Found ShowsLists ALL_FILINGS.now [] (λ r. map line_columns (filing_lines r.members))
+all_filings_found =
+    found_as (from_filings (asked_both all_filings_both) (λ o. line_columns (filing_row o.agent o.filing)) (λ o. true) (λ o. refl) (λ id x. (refl, refl)) (λ o. refl))
+    (λ r s shows. ap (map (λ (o : Owned). line_columns (filing_row o.agent o.filing))) (all_pass (owned r.members)) ∙ lines_are r.members)
 
-pub of_first : (r : Register) (s : State) → ShowsFirst r s → ShowsLists r s
-of_first r s shows = record {
-  has = record {
-    schema = inl shows.has.schema;
-    agents = shows.has.agents;
-    filings = shows.has.filings;
-    statements = shows.has.statements;
-    interests = shows.has.interests;
-    identifiers = shows.has.identifiers;
-  };
-  stored = shows.stored;
-}
+pub file_by_number_found : (agent : List ℕ) (number : ℕ) → Found ShowsLists FILE_BY_NUMBER.now (Text agent ∷ Int (pos number) ∷ []) (λ r. map (λ f. shown_columns (filing_shown f)) (numbered number (filings_of agent r.members)))
+file_by_number_found agent number =
+    found_as (from_filings (asked_both file_by_number_both) (λ o. shown_columns (filing_shown o.filing)) (λ o. is_same o.agent agent && o.filing.number == number)
+    (λ o. ap₂ (λ x y. x && y) (text_test o.agent agent) (and-true _ ∙ int_test (pos o.filing.number) (pos number) ∙ number_test o.filing.number number)) (λ id x. (refl, refl)) (λ o. refl))
+    (λ r s shows. own_filings agent r.members shows.stored.ordered (λ f. f.number == number) (λ o. shown_columns (filing_shown o.filing)))
 
-pub of_now : (r : Register) (s : State) → ShowsIn r s → ShowsLists r s
-of_now r s shows = record {
-  has = record {
-    schema = inr shows.has.schema;
-    agents = shows.has.agents;
-    filings = shows.has.filings;
-    statements = shows.has.statements;
-    interests = shows.has.interests;
-    identifiers = shows.has.identifiers;
-  };
-  stored = shows.stored;
-}
+pub statements_of_filing_found : (agent : List ℕ) (number : ℕ) → Found ShowsLists STATEMENTS_OF_FILING.now (Text agent ∷ Int (pos number) ∷ []) (λ r. map (λ p. statement_columns (bare p)) (in_filing number (placed_of agent r)))
+statements_of_filing_found agent number =
+    found_as (from_statements (asked_both statements_of_filing_both) (λ q. statement_columns (bare q)) (λ q. is_same q.at.agent agent && q.at.filing == number)
+    (λ q. ap₂ (λ x y. x && y) (text_test q.at.agent agent) (and-true _ ∙ int_test (pos q.at.filing) (pos number) ∙ number_test q.at.filing number)) (λ id x. (refl, refl)) (λ q. statement_shown (bare q)))
+    (λ r s shows. ap (map (λ (q : Placed). statement_columns (bare q))) (own_statements agent r.members shows.stored.ordered (λ q. q.at.filing == number)))
 
--- what is found of a register in either version is found of one in version 2
-pub finds_now : {old new : State} {result : Result (Vec Row Global) Error} {rows_of : Register → List Row} → FindsRows ShowsLists old new result rows_of → FindsRows ShowsIn old new result rows_of
-finds_now found = record { reads = found.reads; settled = found.settled; up = found.up; rows = λ clean r shows. found.rows clean r (of_now r _ shows) }
+pub interests_of_statement_found : (at : At) → Found ShowsLists INTERESTS_OF_STATEMENT.now (place_params at) (λ r. map interest_columns (interests_at at r.members))
+interests_of_statement_found at =
+    found_as (from_interests (asked_both interests_of_statement_both) (λ i. same_place i.at at) (λ i. place_test i.at at) (λ id x. (refl, refl)) interest_shown)
+    (λ r s shows. ap (map interest_columns) (rows_at (λ (i : InterestRow). i.at) (λ a. same_place a at) interest_rows interests_stand (placed r.members)))
 
-module _ (r : Register) (old new : State) (shows : ShowsLists r old) (rows : List Row) where
-  pub lists_now : old.now ≡ old.committed → HasLists (contents r) old.now
-  lists_now settled = subst (HasLists (contents r)) (sym settled) shows.has
-
-  pub answered : (settled : old.now ≡ old.committed) (text : List ℕ) (params : Row) (query : Query) (names : List (List ℕ)) → AsksBoth text (shows_rows query names) → Shown text params old new rows → IsAnswer query (overlay old.now.trees []) params rows
-  answered settled text params query names is h = go (lists_now settled).schema
-    where
-      go : IsOfVersion old.now.schema → IsAnswer query (overlay old.now.trees []) params rows
-      go (inl first) = (reads_as text params old new _ first (shows_rows query names) is.first.0 is.first.1 is.first.2 rows h).answer Null
-      go (inr now) = (reads_as text params old new _ now (shows_rows query names) is.now.0 is.now.1 is.now.2 rows h).answer Null
-
-pub all_filings_found : Gives ShowsLists all_filings_text [] (λ r. map line_columns (filing_lines r.members))
-all_filings_found r old new rows shows h =
-    picked_rows 5 refl all_filings_query.filter [] all_filings_query.project (rising 1 ∷ rising 2 ∷ []) (λ id x. refl) whole (λ o. line_columns (filing_row o.agent o.filing)) (λ o. true) (λ o. refl) (owned r.members) old.now.trees (filing_rows r.members) rows (filing_rows_are r.members)
-    (lists_now r old new shows rows h.0).filings (λ id x. refl) (λ o. refl) (answered r old new shows rows h.0 all_filings_text [] all_filings_query _ all_filings_both h.1) IsEarlier (λ a b lt. lt)
-    (ascending-filter IsEarlier (λ o. true) (owned r.members) (owned_rise r.members shows.stored.ordered shows.stored.numbered))
-    ∙ ap (map (λ (o : Owned). line_columns (filing_row o.agent o.filing))) (all_pass (owned r.members)) ∙ lines_are r.members
-
-pub file_by_number_found : (agent : List ℕ) (number : ℕ) → Gives ShowsLists file_by_number_text (Text agent ∷ Int (pos number) ∷ []) (λ r. map (λ f. shown_columns (filing_shown f)) (numbered number (filings_of agent r.members)))
-file_by_number_found agent number r old new rows shows h =
-    let p : Owned → Bool = λ o. is_same o.agent agent && o.filing.number == number in
-    picked_rows 5 refl file_by_number_query.filter (Text agent ∷ Int (pos number) ∷ []) file_by_number_query.project (rising 1 ∷ rising 2 ∷ []) (λ id x. refl) whole (λ o. shown_columns (filing_shown o.filing)) p
-    (λ o. ap₂ (λ x y. x && y) (text_test o.agent agent) (and-true _ ∙ int_test (pos o.filing.number) (pos number) ∙ number_test o.filing.number number)) (owned r.members) old.now.trees (filing_rows r.members) rows (filing_rows_are r.members)
-    (lists_now r old new shows rows h.0).filings (λ id x. refl) (λ o. refl) (answered r old new shows rows h.0 file_by_number_text (Text agent ∷ Int (pos number) ∷ []) file_by_number_query _ file_by_number_both h.1) IsEarlier (λ a b lt. lt)
-    (ascending-filter IsEarlier p (owned r.members) (owned_rise r.members shows.stored.ordered shows.stored.numbered))
-    ∙ own_filings agent r.members shows.stored.ordered (λ f. f.number == number) (λ o. shown_columns (filing_shown o.filing))
+pub identifiers_of_statement_found : (at : At) → Found ShowsLists IDENTIFIERS_OF_STATEMENT.now (place_params at) (λ r. map identifier_columns (identifiers_at at r.members))
+identifiers_of_statement_found at =
+    found_as (from_identifiers (asked_both identifiers_of_statement_both) (λ i. same_place i.at at) (λ i. place_test i.at at) (λ id x. (refl, refl)) (λ i. refl))
+    (λ r s shows. ap (map identifier_columns) (rows_at (λ (i : IdentifierRow). i.at) (λ a. same_place a at) identifier_rows identifiers_stand (placed r.members)))

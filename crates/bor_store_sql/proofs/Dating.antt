@@ -1,18 +1,17 @@
 -- The effects of the UPDATE of the register's day.
-use Rattle.std.proofs.Common.{◌≡◌, ◌≤◌, ℤ, pos, Bool, true, false, cond, List, [], ◌∷◌, length, drop, ◌==◌, arith, refl, subst, ◌∙◌}
-use Rattle.std.specs.List.{flat_map, filter_map}
+use Rattle.std.proofs.Common.{◌≡◌, ◌≤◌, ℤ, pos, Bool, true, false, cond, List, [], ◌∷◌, length, drop, arith, refl, subst, ◌∙◌}
 use Rattle.std.proofs.Math.Bool.{and-true}
 use Rattle.sqlite.specs.declared.types.Value.TheVariants.{Null, Int}
 use Rattle.sqlite.specs.Order.{Row, column}
 use Rattle.sqlite.specs.Term.{Term, col}
 use Rattle.sqlite.specs.Effect.{Database}
-use Rattle.sqlite_rules.specs.Action.{Work, works, work_by, pairs, deed_for}
-use Rattle.sqlite_schema.specs.Rules.{parent_key}
+use Rattle.sqlite_rules.specs.Action.{works}
 use Rattle.sqlite_rules.specs.Cast.{cast_row}
 use Rattle.sqlite_schema.specs.declared.schema.Keys.TheVariants.{Enforced}
 use Rattle.bor_register.specs.Register.{Register}
 use Rattle.bor_store_sql.specs.Texts.Tables.{keep_schema, register_at}
-use Rattle.bor_store_sql.specs.Texts.Changes.{equals_number, update_day_text, update_day_program}
+use Rattle.bor_store_sql.specs.Texts.Changes.{equals_number, update_day_program}
+use Rattle.bor_store_sql.specs.declared.texts.changes.TheConstants.{UPDATE_DAY}
 use Rattle.bor_store_sql.proofs.OnTexts.ChangeMeanings.{update_day_is}
 use Rattle.bor_terms.specs.Day.{IsDay}
 use Rattle.bor_store_sql.specs.Rows.Stored.{IsStored}
@@ -22,21 +21,14 @@ use Rattle.bor_store_sql.specs.Shown.{ChangesContents, Has}
 use Rattle.bor_store_sql.specs.Changing.{is_the_one, dated, with_day, IsOneRegister}
 use Rattle.bor_store_sql.proofs.Inserts.{cast_int}
 use Rattle.bor_store_sql.proofs.Moves.{Making}
-use Rattle.bor_store_sql.proofs.Writes.{updates}
+use Rattle.bor_store_sql.proofs.Writes.{updates, no_key_acts}
 use Rattle.bor_store_sql.proofs.Tables.{updated}
 use Rattle.bor_store_sql.proofs.Selects.{int_test}
-use Rattle.bor_store_sql.proofs.Others.{with_register}
+use Rattle.bor_store_sql.proofs.Others.{one_changed}
 
 -- no key acts where the register's row changes
-abbrev works_by : List Row → List Row → Bool → List Work
-works_by olds news none = flat_map (λ child. filter_map (λ ref. work_by 0 0 (pairs olds news) child ref (deed_for Enforced none ref) (parent_key keep_schema.tables ref)) child.references) keep_schema.tables
-
 pub register_alone : (olds news : List Row) → works keep_schema Enforced 0 0 olds news ≡ []
-register_alone olds news = go (length news == 0)
-  where
-    go : (b : Bool) → works_by olds news b ≡ []
-    go true = refl
-    go false = refl
+register_alone = no_key_acts 0 (λ olds news. refl) (λ olds news. refl)
 
 abbrev pub one_tests : List Term
 one_tests = equals_number 1 1 ∷ []
@@ -49,14 +41,14 @@ module _ (day : ℤ) where
   abbrev day_of : Row → Row
   day_of r = column r 0 ∷ column r 0 ∷ column r 1 ∷ column r 2 ∷ Int day ∷ column r 4 ∷ []
 
-  pub day_updated : Making update_day_text (Int day ∷ []) (ChangesContents (IsOneRegister day) (with_day day))
+  pub day_updated : Making UPDATE_DAY.now (Int day ∷ []) (ChangesContents (IsOneRegister day) (with_day day))
   day_updated old new count h t has one =
       let params = Int day ∷ [] in
-      let done = updates update_day_text params keep_schema 0 update_day_program register_at update_day_is.0 update_day_is.1 refl register_alone old new count has.schema h in
+      let done = updates UPDATE_DAY.now params keep_schema 0 update_day_program register_at update_day_is.0 update_day_is.1 refl register_alone old new count has.schema h in
       let w = done.2 in
-      with_register t old.now new.now w.sound w.schema_is has w.others _
+      one_changed 0 old.now new.now w.others _
       (updated 0 refl one_tests params (is_the_one day) (λ id x. refl) day_terms day_of (λ s. cast_row register_at (drop 1 s)) (dated day)
-      (λ r. refl) (λ id x. refl) (λ id x. rw (cast_int (pos id)) refl) old.now.trees t.register done.0 (new.now.trees 0) has.register one (done.1.answer Null) w.rows_are)
+      (λ r. refl) (λ id x. refl) (λ id x. rw (cast_int (pos id)) refl) old.now.trees t.register done.0 (new.now.trees 0) has.register one (done.1.answer Null) w.rows_are) t w.sound w.schema_is has
 
   pub one_register : (r : Register) → IsOneRegister day (contents r)
   one_register r = go (is_the_one day (register_columns r))

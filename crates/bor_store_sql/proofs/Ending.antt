@@ -124,33 +124,34 @@ pub record Ended (Makes : Database → Database → Type 0) (old new : State) (r
   pub made : IsClean new → OnOk result (Makes old.committed new.committed)
   pub stops : LeavesAtMost (IsMadeOf Makes old.committed) old new
 
--- `began` is the connection once the transaction was begun
-pub ended : {S : Type 0} (g : Ghosts S) (Makes : Database → Database → Type 0) (was began : Held S) (mid new : State) (done result : Result (Unit {0}) Error) → was.in_transaction ≡ false → (IsTrue (state g was).is_open → (state g was).now ≡ (state g was).committed)
-    → began ≡ record was { in_transaction = true } → MovesTo Makes (state g began) mid done → RanOpenIn (state g began) mid done → new.in_transaction ≡ false → Ends mid new done result → Ended Makes (state g was) new result
-ended g Makes was began mid new done result alone settled begun moves opened mode ends =
-    by_moves g Makes was mid new done result alone settled (subst (λ h. MovesTo Makes (state g h) mid done) begun moves) (subst (λ h. RanOpenIn (state g h) mid done) begun opened) mode ends
-  where
-    by_moves : {S : Type 0} (g : Ghosts S) (Makes : Database → Database → Type 0) (was : Held S) (mid new : State) (done result : Result (Unit {0}) Error) → was.in_transaction ≡ false → (IsTrue (state g was).is_open → (state g was).now ≡ (state g was).committed)
-        → MovesTo Makes (record (state g was) { in_transaction = true }) mid done → RanOpenIn (record (state g was) { in_transaction = true }) mid done → new.in_transaction ≡ false → Ends mid new done result → Ended Makes (state g was) new result
-    by_moves g Makes was mid new done result alone settled moves opened mode ends =
-        let start = record (state g was) { in_transaction = true } in
-        record {
-          commits = record {
-            mode = mode ∙ sym alone;
-            settled = known result alone;
-            clean = λ clean. moves.clean (ends.clean clean);
-            up = where_up mid new done result ends;
-            began = λ clean. (moves.clean (ends.clean clean.0), (moves.inside (ends.clean clean.0) refl).was_open (ends.was_open clean.0 clean.1));
-            kept = λ clean. left_by Makes start mid new done result clean.0 clean.1 (moves.inside (ends.clean clean.0) refl) ends;
-          };
-          made = λ clean. made_by Makes start mid new done result (state g was).committed settled clean.0 clean.1 (moves.inside (ends.clean clean.0) refl) ends;
-          stops = λ clean trees left. elim (ends.stops clean trees left) [
-            | inl before ↦ inl (moves.stops (ends.clean clean) trees before)
-            | inr (went, is) ↦
-                let up = of_ok _ done went (opened (ends.clean clean) refl) in
-                inr ((moves.clean (ends.clean clean), up), stopped_by Makes start mid done (state g was).committed trees (settled up) (moves.inside (ends.clean clean) refl) went is)
-          ];
-        }
+by_moves : {S : Type 0} (g : Ghosts S) (Makes : Database → Database → Type 0) (was : Held S) (mid new : State) (done result : Result (Unit {0}) Error) → was.in_transaction ≡ false → (IsTrue (state g was).is_open → (state g was).now ≡ (state g was).committed)
+    → MovesTo Makes (record (state g was) { in_transaction = true }) mid done → RanOpenIn (record (state g was) { in_transaction = true }) mid done → new.in_transaction ≡ false → Ends mid new done result → Ended Makes (state g was) new result
+by_moves g Makes was mid new done result alone settled moves opened mode ends =
+    let start = record (state g was) { in_transaction = true } in
+    record {
+      commits = record {
+        mode = mode ∙ sym alone;
+        settled = known result alone;
+        clean = λ clean. moves.clean (ends.clean clean);
+        up = where_up mid new done result ends;
+        began = λ clean. (moves.clean (ends.clean clean.0), (moves.inside (ends.clean clean.0) refl).was_open (ends.was_open clean.0 clean.1));
+        kept = λ clean. left_by Makes start mid new done result clean.0 clean.1 (moves.inside (ends.clean clean.0) refl) ends;
+      };
+      made = λ clean. made_by Makes start mid new done result (state g was).committed settled clean.0 clean.1 (moves.inside (ends.clean clean.0) refl) ends;
+      stops = λ clean trees left. elim (ends.stops clean trees left) [
+        | inl before ↦ inl (moves.stops (ends.clean clean) trees before)
+        | inr (went, is) ↦
+            let up = of_ok _ done went (opened (ends.clean clean) refl) in
+            inr ((moves.clean (ends.clean clean), up), stopped_by Makes start mid done (state g was).committed trees (settled up) (moves.inside (ends.clean clean) refl) went is)
+      ];
+    }
+
+-- The connection `was` had no transaction. It was `began` once one was begun, and `left` once that ended.
+pub ended : {S : Type 0} (g : Ghosts S) (was end left : Held S) {Makes : Database → Database → Type 0} {began : Held S} {mid : State} {done result : Result (Unit {0}) Error} → began ≡ record was { in_transaction = true } → MovesTo Makes (state g began) mid done → RanOpenIn (state g began) mid done
+    → Ends mid (state g end) done result → (state g end).in_transaction ≡ false → (IsTrue (state g was).is_open → (state g was).now ≡ (state g was).committed) → was.in_transaction ≡ false → end ≡ left → Ended Makes (state g was) (state g left) result
+ended g was end left {Makes} {mid = mid} {done} {result} begun moves opened ends mode settled alone same =
+    subst (λ h. Ended Makes (state g was) (state g h) result) same
+    (by_moves g Makes was mid (state g end) done result alone settled (subst (λ h. MovesTo Makes (state g h) mid done) begun moves) (subst (λ h. RanOpenIn (state g h) mid done) begun opened) mode ends)
 
 -- what stands in the trees that a stop leaves
 pub stopped_in : (Makes : Database → Database → Type 0) (Made : Trees → Type 0) (old new : State) → ((trees : Trees) → IsMadeOf Makes old.committed trees → Made trees) → LeavesAtMost (IsMadeOf Makes old.committed) old new → LeavesAtMost Made old new
@@ -165,9 +166,9 @@ on_ok (Ok x) p follows = follows p
 on_ok (Err e) p follows = tt
 
 -- what a change of the register that is shown makes of it
-pub alters : (Makes : Database → Database → Type 0) (Shows : Register → State → Type 0) (Fits : Register → Type 0) (change : Register → Register) {old new : State} {result : Result (Unit {0}) Error}
-    → ((r : Register) → Shows r old → Fits r → (db : Database) → Makes old.committed db → Has (contents (change r)) db × IsStored (change r)) → Ended Makes old new result → AltersTo Shows Fits change old new result
-alters Makes Shows Fits change {old} {new} {result} so it = record {
+pub alters : {Makes : Database → Database → Type 0} {Shows : Register → State → Type 0} {Fits : Register → Type 0} {change : Register → Register} {old new : State} {result : Result (Unit {0}) Error} → Ended Makes old new result
+    → ((r : Register) → Shows r old → Fits r → (db : Database) → Makes old.committed db → Has (contents (change r)) db × IsStored (change r)) → AltersTo Shows Fits change old new result
+alters {Makes} {Shows} {Fits} {change} {old} {new} {result} it so = record {
   commits = it.commits;
   made = λ clean r shows fits. on_ok result (it.made clean) (λ makes. let is = so r shows fits new.committed makes in record { has = is.0; stored = is.1 });
   stops = stopped_in Makes (λ trees. (r : Register) → Shows r old → Fits r → Stands (change r) trees) old new (λ trees m r shows fits. stands_in (change r) m.after trees m.trees_are (so r shows fits m.after m.made)) it.stops;

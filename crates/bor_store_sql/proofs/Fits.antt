@@ -21,12 +21,12 @@ use Rattle.bor_store_sql.specs.Rows.Placed.{bare, identifier_rows, interest_rows
 use Rattle.bor_store_sql.specs.Rows.Stored.{AreNumbered, IsStored}
 use Rattle.bods_read.specs.WordLaws.{status_back}
 use Rattle.bor_store_sql.specs.declared.rows.typed.Placed.{Placed}
-use Rattle.bor_store_sql.proofs.OnRows.Numbers.{other_number}
 use Rattle.bor_store_sql.proofs.OnRows.Successors.{is_number, none_filed, other_filing, own_filing}
 use Rattle.bor_store_sql.specs.Fitting.{Fit, FitsAt, IsKept, Pairwise, columns_beside, standing, statements_kept, with_status}
 use Rattle.bor_store_sql.specs.Selected.{identifiers_at, in_filing, interests_at, numbered, placed_of}
 use Rattle.bor_store_sql.proofs.Alone.{IsAlone, own_alone_at}
 use Rattle.bor_store_sql.proofs.StoredMembers.{numbered_of}
+use Rattle.bor_store_sql.proofs.OnRows.Each.{none_numbered}
 
 -- ---- the status of a row
 
@@ -106,29 +106,16 @@ module _ (agent : List ℕ) (number : ℕ) (ms : List Member) where
   abbrev AllAlone : ℕ → List Statement → Type 0
   AllAlone place kept = All (IsAlone (placed ms)) (placed_from agent number place kept)
 
-  fit_of_rows : (place : ℕ) (said kept : List Statement) → AllAlone place kept → Pairwise (IsKept agent number ms) place said (rows_from place kept) → Fit agent number place said kept
-  fit_of_rows place [] [] alone h = tt
-  fit_of_rows place [] (t ∷ kept) alone h = absurd h
-  fit_of_rows place (s ∷ said) [] alone h = absurd h
-  fit_of_rows place (s ∷ said) (t ∷ kept) alone h = (
-    fits_of_kept agent number place s t ms (All-head (IsAlone (placed ms)) (standing agent number place t) (placed_from agent number (place + 1) kept) alone) h.0,
-    fit_of_rows (place + 1) said kept (All-tail (IsAlone (placed ms)) (standing agent number place t) (placed_from agent number (place + 1) kept) alone) h.1,
-  )
-
-  rows_of_fit : (place : ℕ) (said kept : List Statement) → AllAlone place kept → Fit agent number place said kept → Pairwise (IsKept agent number ms) place said (rows_from place kept)
-  rows_of_fit place [] [] alone h = tt
-  rows_of_fit place [] (t ∷ kept) alone h = absurd h
-  rows_of_fit place (s ∷ said) [] alone h = absurd h
-  rows_of_fit place (s ∷ said) (t ∷ kept) alone h = (
-    kept_of_fits agent number place s t ms (All-head (IsAlone (placed ms)) (standing agent number place t) (placed_from agent number (place + 1) kept) alone) h.0,
-    rows_of_fit (place + 1) said kept (All-tail (IsAlone (placed ms)) (standing agent number place t) (placed_from agent number (place + 1) kept) alone) h.1,
-  )
+  rows_fit_all : (place : ℕ) (said kept : List Statement) → AllAlone place kept → Pairwise (IsKept agent number ms) place said (rows_from place kept) ↔ Fit agent number place said kept
+  rows_fit_all place [] [] alone = (λ h. tt, λ h. tt)
+  rows_fit_all place [] (t ∷ kept) alone = (λ h. absurd h, λ h. absurd h)
+  rows_fit_all place (s ∷ said) [] alone = (λ h. absurd h, λ h. absurd h)
+  rows_fit_all place (s ∷ said) (t ∷ kept) alone =
+      let here = All-head (IsAlone (placed ms)) (standing agent number place t) (placed_from agent number (place + 1) kept) alone in
+      let rest = rows_fit_all (place + 1) said kept (All-tail (IsAlone (placed ms)) (standing agent number place t) (placed_from agent number (place + 1) kept) alone) in
+      (λ h. (fits_of_kept agent number place s t ms here h.0, rest.0 h.1), λ h. (kept_of_fits agent number place s t ms here h.0, rest.1 h.1))
 
 -- ---- of a register
-
-none_numbered : (number n : ℕ) (fs : List AcceptedFiling) → number < n → AreNumbered n fs → numbered number fs ≡ []
-none_numbered number n [] low h = refl
-none_numbered number n (f ∷ fs) low h = rw (other_number number f.number (let is = h.0 in omega (arith, is, low))) (none_numbered number (n + 1) fs (omega (arith, low)) h.1)
 
 abbrev statements_of : List AcceptedFiling → List Statement
 statements_of fs = flat_map (λ (f : AcceptedFiling). f.statements) fs
@@ -158,7 +145,5 @@ module _ (agent : List ℕ) (number : ℕ) (r : Register) (stored : IsStored r) 
   pub rows_fit : (said : List Statement) (rows : List Row) → rows ≡ map (λ p. statement_columns (bare p)) (in_filing number (placed_of agent r))
       → Pairwise (IsKept agent number r.members) 1 said rows ↔ Fit agent number 1 said (statements_kept agent number r)
   rows_fit said rows are =
-      let same : rows ≡ map (λ p. statement_columns (bare p)) (placed_from agent number 1 (statements_kept agent number r)) = are ∙ ap (map (λ p. statement_columns (bare p))) kept_filed in (
-        λ h. fit_of_rows agent number r.members 1 said (statements_kept agent number r) all_alone (subst (Pairwise (IsKept agent number r.members) 1 said) same h),
-        λ h. subst (Pairwise (IsKept agent number r.members) 1 said) (sym same) (rows_of_fit agent number r.members 1 said (statements_kept agent number r) all_alone h),
-      )
+      let same : rows ≡ map (λ p. statement_columns (bare p)) (placed_from agent number 1 (statements_kept agent number r)) = are ∙ ap (map (λ p. statement_columns (bare p))) kept_filed in
+      subst (λ l. Pairwise (IsKept agent number r.members) 1 said l ↔ Fit agent number 1 said (statements_kept agent number r)) (sym same) (rows_fit_all agent number r.members 1 said (statements_kept agent number r) all_alone)

@@ -4,13 +4,14 @@ use Rattle.std.specs.List.{flat_map}
 use Rattle.sqlite.specs.declared.types.Value.TheVariants.{Null, Int}
 use Rattle.sqlite.specs.Order.{Row}
 use Rattle.sqlite.specs.Term.{Term}
-use Rattle.sqlite.specs.Query.{output}
+use Rattle.sqlite.specs.Query.{Query, output}
 use Rattle.sqlite.specs.State.{State}
+use Rattle.sqlite_value.specs.declared.keys.Key.{Key}
 use Rattle.sqlite_keyed.proofs.ListLemmas.{ascending-filter, map-flat_map}
 use Rattle.bor_terms.specs.Span.{Range}
 use Rattle.bor_register.specs.declared.member.Member.{Member}
 use Rattle.bor_register.specs.Register.{Register}
-use Rattle.bor_store_sql.specs.Texts.Queries.{table_query, rising, shows_rows, all_statements_query, all_interests_query}
+use Rattle.bor_store_sql.specs.Texts.Queries.{table_query, rising, all_statements_query, all_interests_query}
 use Rattle.bor_store_sql.specs.declared.rows.typed.Placed.{Placed}
 use Rattle.bor_store_sql.specs.declared.rows.typed.Part.{Part}
 use Rattle.bor_store_sql.specs.declared.rows.typed.Part.TheVariants as part
@@ -20,9 +21,7 @@ use Rattle.bor_store_sql.specs.declared.rows.typed.IdentifierRow.{IdentifierRow}
 use Rattle.bor_store_sql.specs.Rows.Placed.{bare, placed, interest_rows, identifier_rows}
 use Rattle.bor_store_sql.specs.Rows.Encoding.{agent_columns, filing_rows, statement_columns, interest_columns, identifier_columns}
 use Rattle.bor_store_sql.specs.Changing.{row_passes}
-use Rattle.bor_store_sql.proofs.Plain.{IsSelect}
-use Rattle.bor_store_sql.specs.Shown.{ShowsIn}
-use Rattle.bor_store_sql.proofs.Finding.{Shows, answers, has_now}
+use Rattle.bor_store_sql.proofs.Finding.{Asked, Found, lists_now}
 use Rattle.bor_store_sql.proofs.Orders.{IsBefore, agents_rise, Owned, owned, whole, filing_rows_are, IsEarlier, owned_rise, IsPlacedBefore, placed_rise, IsInterestBefore, interest_rows_rise, IsIdentifierBefore, identifier_rows_rise}
 use Rattle.bor_store_sql.proofs.Picking.{shown_as, picked_rows}
 use Rattle.bor_store_sql.proofs.Selects.{env, keeps}
@@ -47,52 +46,79 @@ interest_shown i = go i.interest.share
 
 -- ---- by table
 
-module _ (r : Register) (old new : State) (shows : ShowsIn r old) (rows : List Row) where
-  module _ (text : List ℕ) (params : Row) (names : List (List ℕ)) (tests project : List Term) (h : Shows text params old new rows) where
-    pub from_agents : (p : Member → Bool) → ((m : Member) → row_passes tests params (agent_columns m) ≡ p m) → IsSelect text (shows_rows (table_query 2 tests project (rising 1 ∷ [])) names)
-        → ((id : ℕ) (x : Row) → keeps 2 tests params (Int (pos id) ∷ x) ≡ row_passes tests params x)
-        → ((id : ℕ) (x : Row) → output (table_query 2 tests project (rising 1 ∷ [])) (env 2 tests params (Int (pos id) ∷ x)) ≡ output (table_query 2 tests project (rising 1 ∷ [])) (params ∷ (Null ∷ x) ∷ []))
-        → ((m : Member) → (output (table_query 2 tests project (rising 1 ∷ [])) (params ∷ (Null ∷ agent_columns m) ∷ [])).1 ≡ agent_columns m) → rows ≡ map agent_columns (filter p r.members)
-    from_agents p same asks same_test same_out same_shown =
-        picked_rows 2 refl tests params project (rising 1 ∷ []) same_test agent_columns agent_columns p same r.members old.now.trees (map agent_columns r.members) rows refl (has_now r old new shows h.0).agents same_out same_shown
-        (answers r old new shows h.0 text params (table_query 2 tests project (rising 1 ∷ [])) names asks.asks rows h.1) IsBefore (λ a b lt. lt) (ascending-filter IsBefore p r.members (agents_rise r.members shows.stored.ordered))
+-- whatever its rowid, a row passes the tests by its columns, and shows what they have
+abbrev pub IsByColumns : ℕ → List Term → Row → Query → Type 0
+IsByColumns t tests params query = (id : ℕ) (x : Row) → (keeps t tests params (Int (pos id) ∷ x) ≡ row_passes tests params x) × (output query (env t tests params (Int (pos id) ∷ x)) ≡ output query (params ∷ (Null ∷ x) ∷ []))
 
-    pub from_filings : (out : Owned → Row) (p : Owned → Bool) → ((o : Owned) → row_passes tests params (whole o) ≡ p o) → IsSelect text (shows_rows (table_query 5 tests project (rising 1 ∷ rising 2 ∷ [])) names)
-        → ((id : ℕ) (x : Row) → keeps 5 tests params (Int (pos id) ∷ x) ≡ row_passes tests params x)
-        → ((id : ℕ) (x : Row) → output (table_query 5 tests project (rising 1 ∷ rising 2 ∷ [])) (env 5 tests params (Int (pos id) ∷ x)) ≡ output (table_query 5 tests project (rising 1 ∷ rising 2 ∷ [])) (params ∷ (Null ∷ x) ∷ []))
-        → ((o : Owned) → (output (table_query 5 tests project (rising 1 ∷ rising 2 ∷ [])) (params ∷ (Null ∷ whole o) ∷ [])).1 ≡ out o) → rows ≡ map out (filter p (owned r.members))
-    from_filings out p same asks same_test same_out same_shown =
-        picked_rows 5 refl tests params project (rising 1 ∷ rising 2 ∷ []) same_test whole out p same (owned r.members) old.now.trees (filing_rows r.members) rows (filing_rows_are r.members) (has_now r old new shows h.0).filings same_out same_shown
-        (answers r old new shows h.0 text params (table_query 5 tests project (rising 1 ∷ rising 2 ∷ [])) names asks.asks rows h.1) IsEarlier (λ a b lt. lt)
-        (ascending-filter IsEarlier p (owned r.members) (owned_rise r.members shows.stored.ordered shows.stored.numbered))
+-- what it shows of columns
+abbrev pub shown_of : Query → Row → Row → Row
+shown_of query params x = (output query (params ∷ (Null ∷ x) ∷ [])).1
 
-    pub from_statements : (out : Placed → Row) (p : Placed → Bool) → ((q : Placed) → row_passes tests params (statement_columns (bare q)) ≡ p q) → IsSelect text (shows_rows (table_query 8 tests project (rising 1 ∷ rising 2 ∷ rising 3 ∷ [])) names)
-        → ((id : ℕ) (x : Row) → keeps 8 tests params (Int (pos id) ∷ x) ≡ row_passes tests params x)
-        → ((id : ℕ) (x : Row) → output (table_query 8 tests project (rising 1 ∷ rising 2 ∷ rising 3 ∷ [])) (env 8 tests params (Int (pos id) ∷ x)) ≡ output (table_query 8 tests project (rising 1 ∷ rising 2 ∷ rising 3 ∷ [])) (params ∷ (Null ∷ x) ∷ []))
-        → ((q : Placed) → (output (table_query 8 tests project (rising 1 ∷ rising 2 ∷ rising 3 ∷ [])) (params ∷ (Null ∷ statement_columns (bare q)) ∷ [])).1 ≡ out q) → rows ≡ map out (filter p (placed r.members))
-    from_statements out p same asks same_test same_out same_shown =
-        picked_rows 8 refl tests params project (rising 1 ∷ rising 2 ∷ rising 3 ∷ []) same_test (λ q. statement_columns (bare q)) out p same (placed r.members) old.now.trees (map (λ q. statement_columns (bare q)) (placed r.members)) rows refl
-        (has_now r old new shows h.0).statements same_out same_shown (answers r old new shows h.0 text params (table_query 8 tests project (rising 1 ∷ rising 2 ∷ rising 3 ∷ [])) names asks.asks rows h.1) IsPlacedBefore (λ a b lt. lt)
-        (ascending-filter IsPlacedBefore p (placed r.members) (placed_rise r.members shows.stored.ordered shows.stored.numbered))
+abbrev by_number : List (Term × Key)
+by_number = rising 1 ∷ rising 2 ∷ []
 
-    pub from_interests : (p : InterestRow → Bool) → ((i : InterestRow) → row_passes tests params (interest_columns i) ≡ p i) → IsSelect text (shows_rows (table_query 11 tests project (rising 1 ∷ rising 2 ∷ rising 3 ∷ rising 4 ∷ [])) names)
-        → ((id : ℕ) (x : Row) → keeps 11 tests params (Int (pos id) ∷ x) ≡ row_passes tests params x)
-        → ((id : ℕ) (x : Row) → output (table_query 11 tests project (rising 1 ∷ rising 2 ∷ rising 3 ∷ rising 4 ∷ [])) (env 11 tests params (Int (pos id) ∷ x)) ≡ output (table_query 11 tests project (rising 1 ∷ rising 2 ∷ rising 3 ∷ rising 4 ∷ [])) (params ∷ (Null ∷ x) ∷ []))
-        → ((i : InterestRow) → (output (table_query 11 tests project (rising 1 ∷ rising 2 ∷ rising 3 ∷ rising 4 ∷ [])) (params ∷ (Null ∷ interest_columns i) ∷ [])).1 ≡ interest_columns i)
-        → rows ≡ map interest_columns (filter p (flat_map interest_rows (placed r.members)))
-    from_interests p same asks same_test same_out same_shown =
-        picked_rows 11 refl tests params project (rising 1 ∷ rising 2 ∷ rising 3 ∷ rising 4 ∷ []) same_test interest_columns interest_columns p same (flat_map interest_rows (placed r.members)) old.now.trees
-        (flat_map (λ q. map interest_columns (interest_rows q)) (placed r.members)) rows (sym (map-flat_map interest_columns interest_rows (placed r.members))) (has_now r old new shows h.0).interests same_out same_shown
-        (answers r old new shows h.0 text params (table_query 11 tests project (rising 1 ∷ rising 2 ∷ rising 3 ∷ rising 4 ∷ [])) names asks.asks rows h.1) IsInterestBefore (λ a b lt. lt)
-        (ascending-filter IsInterestBefore p (flat_map interest_rows (placed r.members)) (interest_rows_rise r.members shows.stored.ordered shows.stored.numbered))
+abbrev by_place : List (Term × Key)
+by_place = rising 1 ∷ rising 2 ∷ rising 3 ∷ []
 
-    pub from_identifiers : (p : IdentifierRow → Bool) → ((i : IdentifierRow) → row_passes tests params (identifier_columns i) ≡ p i) → IsSelect text (shows_rows (table_query 13 tests project (rising 1 ∷ rising 2 ∷ rising 3 ∷ rising 4 ∷ [])) names)
-        → ((id : ℕ) (x : Row) → keeps 13 tests params (Int (pos id) ∷ x) ≡ row_passes tests params x)
-        → ((id : ℕ) (x : Row) → output (table_query 13 tests project (rising 1 ∷ rising 2 ∷ rising 3 ∷ rising 4 ∷ [])) (env 13 tests params (Int (pos id) ∷ x)) ≡ output (table_query 13 tests project (rising 1 ∷ rising 2 ∷ rising 3 ∷ rising 4 ∷ [])) (params ∷ (Null ∷ x) ∷ []))
-        → ((i : IdentifierRow) → (output (table_query 13 tests project (rising 1 ∷ rising 2 ∷ rising 3 ∷ rising 4 ∷ [])) (params ∷ (Null ∷ identifier_columns i) ∷ [])).1 ≡ identifier_columns i)
-        → rows ≡ map identifier_columns (filter p (flat_map identifier_rows (placed r.members)))
-    from_identifiers p same asks same_test same_out same_shown =
-        picked_rows 13 refl tests params project (rising 1 ∷ rising 2 ∷ rising 3 ∷ rising 4 ∷ []) same_test identifier_columns identifier_columns p same (flat_map identifier_rows (placed r.members)) old.now.trees
-        (flat_map (λ q. map identifier_columns (identifier_rows q)) (placed r.members)) rows (sym (map-flat_map identifier_columns identifier_rows (placed r.members))) (has_now r old new shows h.0).identifiers same_out same_shown
-        (answers r old new shows h.0 text params (table_query 13 tests project (rising 1 ∷ rising 2 ∷ rising 3 ∷ rising 4 ∷ [])) names asks.asks rows h.1) IsIdentifierBefore (λ a b lt. lt)
-        (ascending-filter IsIdentifierBefore p (flat_map identifier_rows (placed r.members)) (identifier_rows_rise r.members shows.stored.ordered shows.stored.numbered))
+abbrev pub by_item : List (Term × Key)
+by_item = rising 1 ∷ rising 2 ∷ rising 3 ∷ rising 4 ∷ []
+
+module _ {IsShown : Register → State → Type 0} {text : List ℕ} {params : Row} {tests project : List Term} where
+  pub from_agents : Asked IsShown text (table_query 2 tests project (rising 1 ∷ [])) → (p : Member → Bool) → ((m : Member) → row_passes tests params (agent_columns m) ≡ p m)
+      → IsByColumns 2 tests params (table_query 2 tests project (rising 1 ∷ [])) → ((m : Member) → shown_of (table_query 2 tests project (rising 1 ∷ [])) params (agent_columns m) ≡ agent_columns m)
+      → Found IsShown text params (λ r. map agent_columns (filter p r.members))
+  from_agents asked p same by_columns shown = record {
+    query = asked.is_query;
+    gives = λ r old new rows shows h.
+        let it = asked.lists r old shows in
+        picked_rows 2 refl tests params project (rising 1 ∷ []) (λ id x. (by_columns id x).0) agent_columns agent_columns p same r.members old.now.trees (map agent_columns r.members) rows refl (lists_now r old it h.0).agents (λ id x. (by_columns id x).1) shown
+        (asked.answer r old new shows params rows h) IsBefore (λ a b lt. lt) (ascending-filter IsBefore p r.members (agents_rise r.members it.stored.ordered));
+  }
+
+  pub from_filings : Asked IsShown text (table_query 5 tests project by_number) → (out : Owned → Row) (p : Owned → Bool) → ((o : Owned) → row_passes tests params (whole o) ≡ p o)
+      → IsByColumns 5 tests params (table_query 5 tests project by_number) → ((o : Owned) → shown_of (table_query 5 tests project by_number) params (whole o) ≡ out o) → Found IsShown text params (λ r. map out (filter p (owned r.members)))
+  from_filings asked out p same by_columns shown = record {
+    query = asked.is_query;
+    gives = λ r old new rows shows h.
+        let it = asked.lists r old shows in
+        picked_rows 5 refl tests params project by_number (λ id x. (by_columns id x).0) whole out p same (owned r.members) old.now.trees (filing_rows r.members) rows (filing_rows_are r.members) (lists_now r old it h.0).filings (λ id x. (by_columns id x).1) shown
+        (asked.answer r old new shows params rows h) IsEarlier (λ a b lt. lt) (ascending-filter IsEarlier p (owned r.members) (owned_rise r.members it.stored.ordered it.stored.numbered));
+  }
+
+  pub from_statements : Asked IsShown text (table_query 8 tests project by_place) → (out : Placed → Row) (p : Placed → Bool) → ((q : Placed) → row_passes tests params (statement_columns (bare q)) ≡ p q)
+      → IsByColumns 8 tests params (table_query 8 tests project by_place) → ((q : Placed) → shown_of (table_query 8 tests project by_place) params (statement_columns (bare q)) ≡ out q)
+      → Found IsShown text params (λ r. map out (filter p (placed r.members)))
+  from_statements asked out p same by_columns shown = record {
+    query = asked.is_query;
+    gives = λ r old new rows shows h.
+        let it = asked.lists r old shows in
+        picked_rows 8 refl tests params project by_place (λ id x. (by_columns id x).0) (λ q. statement_columns (bare q)) out p same (placed r.members) old.now.trees (map (λ q. statement_columns (bare q)) (placed r.members)) rows refl
+        (lists_now r old it h.0).statements (λ id x. (by_columns id x).1) shown (asked.answer r old new shows params rows h) IsPlacedBefore (λ a b lt. lt)
+        (ascending-filter IsPlacedBefore p (placed r.members) (placed_rise r.members it.stored.ordered it.stored.numbered));
+  }
+
+  pub from_interests : Asked IsShown text (table_query 11 tests project by_item) → (p : InterestRow → Bool) → ((i : InterestRow) → row_passes tests params (interest_columns i) ≡ p i)
+      → IsByColumns 11 tests params (table_query 11 tests project by_item) → ((i : InterestRow) → shown_of (table_query 11 tests project by_item) params (interest_columns i) ≡ interest_columns i)
+      → Found IsShown text params (λ r. map interest_columns (filter p (flat_map interest_rows (placed r.members))))
+  from_interests asked p same by_columns shown = record {
+    query = asked.is_query;
+    gives = λ r old new rows shows h.
+        let it = asked.lists r old shows in
+        let is = flat_map interest_rows (placed r.members) in
+        picked_rows 11 refl tests params project by_item (λ id x. (by_columns id x).0) interest_columns interest_columns p same is old.now.trees
+        (flat_map (λ q. map interest_columns (interest_rows q)) (placed r.members)) rows (sym (map-flat_map interest_columns interest_rows (placed r.members))) (lists_now r old it h.0).interests (λ id x. (by_columns id x).1) shown
+        (asked.answer r old new shows params rows h) IsInterestBefore (λ a b lt. lt) (ascending-filter IsInterestBefore p is (interest_rows_rise r.members it.stored.ordered it.stored.numbered));
+  }
+
+  pub from_identifiers : Asked IsShown text (table_query 13 tests project by_item) → (p : IdentifierRow → Bool) → ((i : IdentifierRow) → row_passes tests params (identifier_columns i) ≡ p i)
+      → IsByColumns 13 tests params (table_query 13 tests project by_item) → ((i : IdentifierRow) → shown_of (table_query 13 tests project by_item) params (identifier_columns i) ≡ identifier_columns i)
+      → Found IsShown text params (λ r. map identifier_columns (filter p (flat_map identifier_rows (placed r.members))))
+  from_identifiers asked p same by_columns shown = record {
+    query = asked.is_query;
+    gives = λ r old new rows shows h.
+        let it = asked.lists r old shows in
+        let is = flat_map identifier_rows (placed r.members) in
+        picked_rows 13 refl tests params project by_item (λ id x. (by_columns id x).0) identifier_columns identifier_columns p same is old.now.trees
+        (flat_map (λ q. map identifier_columns (identifier_rows q)) (placed r.members)) rows (sym (map-flat_map identifier_columns identifier_rows (placed r.members))) (lists_now r old it h.0).identifiers (λ id x. (by_columns id x).1) shown
+        (asked.answer r old new shows params rows h) IsIdentifierBefore (λ a b lt. lt) (ascending-filter IsIdentifierBefore p is (identifier_rows_rise r.members it.stored.ordered it.stored.numbered));
+  }

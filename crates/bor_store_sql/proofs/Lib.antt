@@ -24,6 +24,7 @@ pub mod Rising
 pub mod Orders
 pub mod Picking
 pub mod FromTables
+pub mod OfOne
 pub mod Selecting
 pub mod Creating
 pub mod Created
@@ -37,7 +38,6 @@ pub mod PutBeside
 pub mod Versioning
 pub mod PeriodReads
 pub mod BothReads
-pub mod BothKeyed
 pub mod Pairs
 pub mod Told
 pub mod Alone

@@ -5,6 +5,7 @@ use Rattle.std.specs.List.{AllByRecursion}
 use Rattle.std.proofs.lemmas.List.{append_assoc}
 use Rattle.std.proofs.lemmas.List.Sorted.{IsPermutation-append_comm, IsPermutation-append_right, IsPermutation-cons, IsPermutation-refl}
 use Rattle.std.proofs.lemmas.List.Elements.{filter-append}
+use Rattle.sqlite_keyed.proofs.ListLemmas.{all_weaker, filter_all, filter_none}
 use Rattle.bor_terms.specs.Texts.{is_same, is_below}
 use Rattle.bor_terms.proofs.Texts.{same_is, same_sym, below_differs}
 use Rattle.bor_register.specs.declared.filing.AcceptedFiling.{AcceptedFiling}
@@ -53,33 +54,47 @@ module _ {X : Type 0} (own : List ℕ → List AcceptedFiling → List X) (all :
       | false ↦ some new (m ∷ ms) ∙ ap (λ l. l ++ all (m ∷ ms)) nothing
     ]
 
+  -- a change of the elements that leaves those of other agents
+  module _ (change : List X → List X) (nothing : change [] ≡ []) (apart : (xs ys : List X) → change (xs ++ ys) ≡ change xs ++ change ys) (agent : List ℕ)
+      (stay : (name : List ℕ) (fs : List AcceptedFiling) → is_same name agent ≡ false → change (own name fs) ≡ own name fs) where
+    all_stay : (ms : List Member) → AllByRecursion (λ (m : Member). is_same m.name agent ≡ false) ms → change (all ms) ≡ all ms
+    all_stay [] h = rw none nothing
+    all_stay (m ∷ ms) h = rw (some m ms) (apart (own m.name m.filings) (all ms) ∙ ap₂ (λ x y. x ++ y) (stay m.name m.filings h.0) (all_stay ms h.1))
+
+    pub own_changed : (new : List AcceptedFiling) (ms : List Member) → IsOrdered ms → change (own agent (filings_of agent ms)) ≡ own agent new → change (all ms) ≡ all (with_filings agent new ms)
+    own_changed new [] up is = rw none nothing
+    own_changed new (m ∷ ms) up is = ap change (some m ms) ∙ apart (own m.name m.filings) (all ms) ∙ go (is_same m.name agent) refl is (own_changed new ms up.1)
+      where
+        go : (b : Bool) → is_same m.name agent ≡ b → change (own agent (if b then m.filings else filings_of agent ms)) ≡ own agent new → (change (own agent (filings_of agent ms)) ≡ own agent new → change (all ms) ≡ all (with_filings agent new ms))
+            → change (own m.name m.filings) ++ change (all ms) ≡ all (if b then record m { filings = new } ∷ ms else m ∷ with_filings agent new ms)
+        go true e here more =
+            ap₂ (λ x y. x ++ y) (subst (λ n. change (own n m.filings) ≡ own n new) (sym (same_is m.name agent e)) here) (all_stay ms (apart_names agent m.name ms e up.0)) ∙ sym (some (record m { filings = new }) ms)
+        go false e here more = ap₂ (λ x y. x ++ y) (stay m.name m.filings e) (more here) ∙ sym (some m (with_filings agent new ms))
+
   -- those of one agent
   module _ (owner : X → List ℕ) (owned : (name : List ℕ) (fs : List AcceptedFiling) → AllByRecursion (λ x. owner x ≡ name) (own name fs)) (without : (name : List ℕ) → own name [] ≡ []) (agent : List ℕ) where
-    all_pass : (xs : List X) (name : List ℕ) → is_same name agent ≡ true → AllByRecursion (λ x. owner x ≡ name) xs → filter (λ x. is_same (owner x) agent) xs ≡ xs
-    all_pass [] name e h = refl
-    all_pass (x ∷ xs) name e h = rw (ap (λ a. is_same a agent) h.0 ∙ e) (ap (λ l. x ∷ l) (all_pass xs name e h.1))
+    abbrev is_own : X → Bool
+    is_own x = is_same (owner x) agent
 
-    none_pass : (xs : List X) (name : List ℕ) → is_same name agent ≡ false → AllByRecursion (λ x. owner x ≡ name) xs → filter (λ x. is_same (owner x) agent) xs ≡ []
-    none_pass [] name e h = refl
-    none_pass (x ∷ xs) name e h = rw (ap (λ a. is_same a agent) h.0 ∙ e) (none_pass xs name e h.1)
+    tested : (name : List ℕ) (fs : List AcceptedFiling) (b : Bool) → is_same name agent ≡ b → AllByRecursion (λ x. is_own x ≡ b) (own name fs)
+    tested name fs b e = all_weaker (λ x. owner x ≡ name) (λ x. is_own x ≡ b) (λ x is. ap (λ a. is_same a agent) is ∙ e) (own name fs) (owned name fs)
 
-    others_pass_not : (ms : List Member) → AllByRecursion (λ (m : Member). is_same m.name agent ≡ false) ms → filter (λ x. is_same (owner x) agent) (all ms) ≡ []
-    others_pass_not [] h = ap (filter (λ x. is_same (owner x) agent)) none
+    others_pass_not : (ms : List Member) → AllByRecursion (λ (m : Member). is_same m.name agent ≡ false) ms → filter is_own (all ms) ≡ []
+    others_pass_not [] h = ap (filter is_own) none
     others_pass_not (m ∷ ms) h =
-        ap (filter (λ x. is_same (owner x) agent)) (some m ms) ∙ filter-append (λ x. is_same (owner x) agent) (own m.name m.filings) (all ms)
-        ∙ ap₂ (λ x y. x ++ y) (none_pass (own m.name m.filings) m.name h.0 (owned m.name m.filings)) (others_pass_not ms h.1)
+        ap (filter is_own) (some m ms) ∙ filter-append is_own (own m.name m.filings) (all ms)
+        ∙ ap₂ (λ x y. x ++ y) (filter_none is_own (own m.name m.filings) (tested m.name m.filings false h.0)) (others_pass_not ms h.1)
 
-    pub own_alone : (ms : List Member) → IsOrdered ms → filter (λ x. is_same (owner x) agent) (all ms) ≡ own agent (filings_of agent ms)
-    own_alone [] up = ap (filter (λ x. is_same (owner x) agent)) none ∙ sym (without agent)
-    own_alone (m ∷ ms) up =
-        ap (filter (λ x. is_same (owner x) agent)) (some m ms) ∙ filter-append (λ x. is_same (owner x) agent) (own m.name m.filings) (all ms) ∙ go (is_same m.name agent) refl (own_alone ms up.1)
+    pub own_alone : (ms : List Member) → IsOrdered ms → filter is_own (all ms) ≡ own agent (filings_of agent ms)
+    own_alone [] up = ap (filter is_own) none ∙ sym (without agent)
+    own_alone (m ∷ ms) up = ap (filter is_own) (some m ms) ∙ filter-append is_own (own m.name m.filings) (all ms) ∙ go (is_same m.name agent) refl (own_alone ms up.1)
       where
-        go : (b : Bool) → is_same m.name agent ≡ b → filter (λ x. is_same (owner x) agent) (all ms) ≡ own agent (filings_of agent ms)
-            → filter (λ x. is_same (owner x) agent) (own m.name m.filings) ++ filter (λ x. is_same (owner x) agent) (all ms) ≡ own agent (if b then m.filings else filings_of agent ms)
+        go : (b : Bool) → is_same m.name agent ≡ b → filter is_own (all ms) ≡ own agent (filings_of agent ms)
+            → filter is_own (own m.name m.filings) ++ filter is_own (all ms) ≡ own agent (if b then m.filings else filings_of agent ms)
         go true e more =
-            ap₂ (λ x y. x ++ y) (all_pass (own m.name m.filings) m.name e (owned m.name m.filings)) (others_pass_not ms (apart_names agent m.name ms e up.0))
+            ap₂ (λ x y. x ++ y) (filter_all is_own (own m.name m.filings) (tested m.name m.filings true e)) (others_pass_not ms (apart_names agent m.name ms e up.0))
             ∙ append-nil (own m.name m.filings) ∙ ap (λ n. own n m.filings) (same_is m.name agent e)
-        go false e more = ap₂ (λ x y. x ++ y) (none_pass (own m.name m.filings) m.name e (owned m.name m.filings)) more
+        go false e more = ap₂ (λ x y. x ++ y) (filter_none is_own (own m.name m.filings) (tested m.name m.filings false e)) more
 
 -- the members with one more are the members and that one
 pub member_added : (new : Member) (ms : List Member) → IsPermutation (ms ++ new ∷ []) (with_member new ms)

@@ -37,11 +37,21 @@ how_ended sql params old new e (inr h) = inl h.2
 
 module _ (sql : List ℕ) (params : Row) (old new : State) (survives : Survives old new (λ _. ⊥)) where
   pub ran_well : (count : ℕ) → (HasCleanDisk new → IsTrue old.in_transaction → ExecutesInside 0 sql params old new (Ok count)) → Ran sql params old new (Ok (tt {0}))
-  ran_well count h = record { clean = was_clean old new (λ _. ⊥) survives; stops = no_more old new survives; inside = λ clean inside. (count, h clean inside) }
+  ran_well count h = record {
+    clean = was_clean old new (λ _. ⊥) survives;
+    stops = no_more old new survives;
+    inside = λ clean inside. (count, h clean inside);
+    opened = λ clean inside. (h clean inside).1.was_open;
+  }
 
   pub ran_badly : (e : Error) (result : Result (Unit {0}) Error) → (HasCleanDisk new → IsTrue old.in_transaction → ExecutesInside 0 sql params old new (Err e)) → IsErr result → Ran sql params old new result
   ran_badly e (Ok x) h err = absurd (true≢false (sym err))
-  ran_badly e (Err why) h err = record { clean = was_clean old new (λ _. ⊥) survives; stops = no_more old new survives; inside = λ clean inside. how_ended sql params old new e (h clean inside) }
+  ran_badly e (Err why) h err = record {
+    clean = was_clean old new (λ _. ⊥) survives;
+    stops = no_more old new survives;
+    inside = λ clean inside. how_ended sql params old new e (h clean inside);
+    opened = λ clean inside. tt;
+  }
 
 -- ---- one statement
 
@@ -193,10 +203,6 @@ each_clean g (text ∷ texts) params old new result (inr (e, ran, err)) clean = 
 
 -- ---- on a connection that was open
 
-pub run_open : (sql : List ℕ) (params : Row) (old new : State) (result : Result (Unit {0}) Error) → Ran sql params old new result → RanOpenIn old new result
-run_open sql params old new (Ok x) ran clean inside = (ran.inside clean inside).1.1.was_open
-run_open sql params old new (Err e) ran clean inside = tt
-
 pub err_open : (old new : State) (result : Result (Unit {0}) Error) → IsErr result → RanOpenIn old new result
 err_open old new (Ok x) err = absurd (true≢false (sym err))
 err_open old new (Err e) err = λ clean inside. tt
@@ -210,7 +216,7 @@ pub each_open : {S : Type 0} {g : Ghosts S} {text : List ℕ} {texts : List (Lis
 each_open {S} {g} {text} {texts} {params} {old} {new} {result} ran = go ran.in_turn
   where
     go : RanInTurn g (text ∷ texts) params old new result → RanOpenIn (state g old) (state g new) result
-    go (inl (mid, ran, more)) = first_open (state g old) (state g mid) (state g new) result (run_open text params (state g old) (state g mid) (Ok (tt {0})) ran) (each_clean g texts params mid new result more)
+    go (inl (mid, ran, more)) = first_open (state g old) (state g mid) (state g new) result ran.opened (each_clean g texts params mid new result more)
     go (inr (e, ran, err)) = err_open (state g old) (state g new) result err
 
 -- ---- changes of rows

@@ -1,4 +1,3 @@
-pub mod TableMeanings
 pub mod QueryMeanings
 pub mod ChangeMeanings
 pub mod TextsAlone

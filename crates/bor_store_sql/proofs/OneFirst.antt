@@ -1,5 +1,5 @@
 -- Tables of version 1 tell all of a register but the days of its interests.
-use Rattle.std.proofs.Common.{◌≡◌, inl, ℕ, List, [], ◌∷◌, ◌++◌, map, refl, sym, ap, ap₂, subst, ◌∙◌, ◌+◌}
+use Rattle.std.proofs.Common.{◌≡◌, ℕ, List, [], ◌∷◌, ◌++◌, map, refl, sym, ap, ap₂, subst, ◌∙◌, ◌+◌}
 use Rattle.std.specs.List.{flat_map}
 use Rattle.std.proofs.lemmas.List.{map-append}
 use Rattle.std.proofs.lemmas.List.Concat.{flat_map-append}
@@ -21,6 +21,8 @@ use Rattle.bor_store_sql.specs.declared.rows.places.At.{At}
 use Rattle.bor_store_sql.specs.declared.rows.typed.Placed.{Placed}
 use Rattle.bor_store_sql.proofs.OneRegister.{AreUp, one_list, one_row}
 use Rattle.bor_store_sql.proofs.PeriodReads.{all_interests}
+use Rattle.sqlite_keyed.proofs.ListLemmas.{flat_map-map, flat_map_same_on, map-map, map_same}
+use Rattle.bor_store_sql.proofs.Finding.{lists_of_first}
 
 -- ---- names and numbers
 
@@ -82,34 +84,32 @@ held_undated (details.Relationship subject party interests) = refl
 -- ---- the rows of the tables
 
 agents_undated : (ms : List Member) → map agent_columns (map undated_member ms) ≡ map agent_columns ms
-agents_undated [] = refl
-agents_undated (m ∷ ms) = ap (λ l. agent_columns m ∷ l) (agents_undated ms)
-
-filed_undated : (agent : List ℕ) (fs : List AcceptedFiling) → map (filing_columns agent) (map undated_filing fs) ≡ map (filing_columns agent) fs
-filed_undated agent [] = refl
-filed_undated agent (f ∷ fs) = ap (λ l. filing_columns agent f ∷ l) (filed_undated agent fs)
+agents_undated ms = map-map agent_columns undated_member ms
 
 filings_undated : (ms : List Member) → filing_rows (map undated_member ms) ≡ filing_rows ms
 filings_undated [] = refl
-filings_undated (m ∷ ms) = ap₂ (λ x y. x ++ y) (filed_undated m.name m.filings) (filings_undated ms)
+filings_undated (m ∷ ms) = ap₂ (λ x y. x ++ y) (map-map (filing_columns m.name) undated_filing m.filings) (filings_undated ms)
 
 statements_undated : (ps : List Placed) → map (λ p. statement_columns (bare p)) (map undated_placed ps) ≡ map (λ p. statement_columns (bare p)) ps
-statements_undated [] = refl
-statements_undated (p ∷ ps) = ap₂ (λ x l. x ∷ l) (ap statement_columns (bare_undated p)) (statements_undated ps)
+statements_undated ps =
+    map-map (λ p. statement_columns (bare p)) undated_placed ps
+    ∙ map_same (λ p. statement_columns (bare (undated_placed p))) (λ p. statement_columns (bare p)) (λ p. ap statement_columns (bare_undated p)) ps
 
 held_from : (at : At) (item : ℕ) (is : List Interest) → map interest_columns (interests_from at item (map undated is)) ≡ map interest_columns (interests_from at item is)
 held_from at item [] = refl
 held_from at item (i ∷ is) = ap (λ l. interest_columns (record { at = at; item = item; interest = i }) ∷ l) (held_from at (item + 1) is)
 
 interests_undated : (ps : List Placed) → flat_map (λ p. map interest_columns (interest_rows p)) (map undated_placed ps) ≡ flat_map (λ p. map interest_columns (interest_rows p)) ps
-interests_undated [] = refl
-interests_undated (p ∷ ps) =
-    let held = interests_listed p.statement.details in
-    ap₂ (λ x y. x ++ y) (ap (λ is. map interest_columns (interests_from p.at 1 is)) (held_undated p.statement.details) ∙ held_from p.at 1 held) (interests_undated ps)
+interests_undated ps =
+    flat_map-map (λ p. map interest_columns (interest_rows p)) undated_placed ps
+    ∙ flat_map_same_on (λ p. map interest_columns (interest_rows (undated_placed p))) (λ p. map interest_columns (interest_rows p))
+    (λ p. ap (λ is. map interest_columns (interests_from p.at 1 is)) (held_undated p.statement.details) ∙ held_from p.at 1 (interests_listed p.statement.details)) ps
 
 identifiers_undated : (ps : List Placed) → flat_map (λ p. map identifier_columns (identifier_rows p)) (map undated_placed ps) ≡ flat_map (λ p. map identifier_columns (identifier_rows p)) ps
-identifiers_undated [] = refl
-identifiers_undated (p ∷ ps) = ap₂ (λ x y. x ++ y) (ap (λ is. map identifier_columns (identifiers_from p.at 1 is)) (identified_undated p.statement.details)) (identifiers_undated ps)
+identifiers_undated ps =
+    flat_map-map (λ p. map identifier_columns (identifier_rows p)) undated_placed ps
+    ∙ flat_map_same_on (λ p. map identifier_columns (identifier_rows (undated_placed p))) (λ p. map identifier_columns (identifier_rows p))
+    (λ p. ap (λ is. map identifier_columns (identifiers_from p.at 1 is)) (identified_undated p.statement.details)) ps
 
 first_undated : (r : Register) → first_contents (without_days r) ≡ first_contents r
 first_undated r =
@@ -146,10 +146,7 @@ no_days r = ap (λ ps. flat_map period_rows (flat_map interest_rows ps)) (placed
 -- ---- one register but for the days
 
 lists_undated : (r : Register) (db : Database) → HasFirst (first_contents r) db → HasLists (contents (without_days r)) db
-lists_undated r db has = go (subst (λ t. HasFirst t db) (sym (first_undated r)) has)
-  where
-    go : HasFirst (first_contents (without_days r)) db → HasLists (contents (without_days r)) db
-    go h = record { schema = inl h.schema; agents = h.agents; filings = h.filings; statements = h.statements; interests = h.interests; identifiers = h.identifiers }
+lists_undated r db has = lists_of_first (without_days r) (subst (λ t. HasFirst t db) (sym (first_undated r)) has)
 
 pub one_but_days : (r q : Register) (db : Database) → AreUp r → AreUp q → HasFirst (first_contents r) db → HasFirst (first_contents q) db → without_days r ≡ without_days q
 one_but_days r q db rise rise_too has has_too =

@@ -1,5 +1,5 @@
 -- The rows of a database are those of one register at most.
-use Rattle.std.proofs.Common.{◌≡◌, inr, ℕ, ℤ, zero, suc, pos, ◌+◌, List, [], ◌∷◌, ◌++◌, map, filter, refl, sym, ap, ap₂, subst, ◌∙◌, arith, IsPermutation, IsSorted}
+use Rattle.std.proofs.Common.{◌≡◌, ℕ, ℤ, zero, suc, pos, ◌+◌, List, [], ◌∷◌, ◌++◌, map, filter, refl, sym, ap, ap₂, subst, ◌∙◌, arith, IsPermutation, IsSorted}
 use Rattle.std.specs.List.{flat_map}
 use Rattle.std.specs.Ordering.{is_lt, ordering_reverse}
 use Rattle.std.proofs.lemmas.List.{map-append}
@@ -9,21 +9,19 @@ use Rattle.sqlite.specs.Order.{Row}
 use Rattle.sqlite.specs.State.{State}
 use Rattle.sqlite.specs.Tree.{IsAscending}
 use Rattle.sqlite.specs.declared.types.Value.TheVariants.{Int}
-use Rattle.sqlite_keyed.proofs.ListLemmas.{ascending-filter, ascending-map, map-flat_map}
+use Rattle.sqlite_keyed.proofs.ListLemmas.{ascending-filter, ascending-map, map-flat_map, map-map, map_same}
 use Rattle.sqlite_keyed.proofs.SortLemmas.{sorted_unique}
 use Rattle.sqlite_sql.proofs.QueryLemmas.{key_cmp_total}
 use Rattle.sqlite_sql.specs.Query.{key_cmp}
 use Rattle.sqlite_value.specs.declared.keys.Key.{Key}
 use Rattle.bor_register.specs.Register.{IsOrdered, Register}
-use Rattle.bor_register.specs.declared.filing.AcceptedFiling.{AcceptedFiling}
 use Rattle.bor_register.specs.declared.member.Member.{Member}
 use Rattle.bor_store_sql.specs.Kept.{AreRows, Keeps}
-use Rattle.bor_store_sql.specs.Rows.Encoding.{Contents, agent_columns, contents, filing_columns, filing_rows, identifier_columns, interest_columns, interest_line_columns, period_columns, statement_columns, tables_version, versioned_columns}
+use Rattle.bor_store_sql.specs.Rows.Encoding.{agent_columns, contents, filing_columns, filing_rows, identifier_columns, interest_columns, interest_line_columns, period_columns, statement_columns, tables_version, versioned_columns}
 use Rattle.bor_store_sql.specs.Rows.Placed.{agent_row, bare, identifier_rows, interest_rows, interest_line, period_rows, placed, register_row}
 use Rattle.bor_store_sql.specs.Rows.Stored.{AllNumbered, IsStored}
 use Rattle.bor_store_sql.specs.Shown.{Has, HasLists, ShowsIn}
 use Rattle.bor_store_sql.specs.declared.rows.typed.InterestRow.{InterestRow}
-use Rattle.bor_store_sql.specs.declared.rows.typed.Placed.{Placed}
 use Rattle.bor_store_sql.specs.declared.rows.typed.RegisterRow.{RegisterRow}
 use Rattle.bor_store_sql.proofs.OnRows.Apart.{all_apart}
 use Rattle.bor_store_sql.proofs.OnRows.Decoded.{agent_in, filed, filing_back, filing_in, identifier_back, identifier_in, line_back, line_in, period_back, period_in, register_in, same_values, statement_back, statement_in}
@@ -31,6 +29,7 @@ use Rattle.bor_store_sql.proofs.OnRows.Once.{all_filed, same_joined, same_member
 use Rattle.bor_store_sql.proofs.OnRows.Timings.{all_several}
 use Rattle.bor_store_sql.proofs.Orders.{IsInterestBefore, IsLower, agents_rise, filing_rows_are, identifier_rows_rise, interest_rows_rise, owned, owned_rise, placed_rise, up, whole}
 use Rattle.bor_store_sql.proofs.PeriodReads.{all_interests, day_columns, is_said, listed, table_is}
+use Rattle.bor_store_sql.proofs.Finding.{lists_of}
 
 -- ---- the rows of one table
 
@@ -62,28 +61,20 @@ same_rows keys xs ys rows rise rise_too a b =
 
 -- ---- the values of each table
 
-filed_by : (agent : List ℕ) (fs : List AcceptedFiling) → map filing_in (map (filing_columns agent) fs) ≡ map (filed agent) fs
-filed_by agent [] = refl
-filed_by agent (f ∷ fs) = ap₂ (λ x l. x ∷ l) (filing_back agent f) (filed_by agent fs)
-
 filed_are : (ms : List Member) → map filing_in (filing_rows ms) ≡ all_filed ms
 filed_are [] = refl
-filed_are (m ∷ ms) = map-append filing_in (map (filing_columns m.name) m.filings) (filing_rows ms) ∙ ap₂ (λ x l. x ++ l) (filed_by m.name m.filings) (filed_are ms)
+filed_are (m ∷ ms) =
+    map-append filing_in (map (filing_columns m.name) m.filings) (filing_rows ms)
+    ∙ ap₂ (λ x l. x ++ l) (map-map filing_in (filing_columns m.name) m.filings ∙ map_same (λ f. filing_in (filing_columns m.name f)) (filed m.name) (filing_back m.name) m.filings) (filed_are ms)
 
 rows_of : (ms : List Member) → map (λ p. statement_columns (bare p)) (placed ms) ≡ map statement_columns (map bare (placed ms))
-rows_of ms = go (placed ms)
-  where
-    go : (ps : List Placed) → map (λ p. statement_columns (bare p)) ps ≡ map statement_columns (map bare ps)
-    go [] = refl
-    go (p ∷ ps) = ap (λ l. statement_columns (bare p) ∷ l) (go ps)
+rows_of ms = sym (map-map statement_columns bare (placed ms))
 
 lines_are : (is : List InterestRow) → map interest_columns is ≡ map interest_line_columns (map interest_line is)
-lines_are [] = refl
-lines_are (i ∷ is) = ap (λ l. interest_columns i ∷ l) (lines_are is)
+lines_are is = sym (map-map interest_line_columns interest_line is)
 
 agents_are : (ms : List Member) → map agent_in (map agent_columns ms) ≡ map agent_row ms
-agents_are [] = refl
-agents_are (m ∷ ms) = ap (λ l. agent_row m ∷ l) (agents_are ms)
+agents_are ms = map-map agent_in agent_columns ms
 
 -- the row of the register in a version
 pub one_row : (version : ℤ) (a b : RegisterRow) (rows : List Row) → Keeps (versioned_columns version a ∷ []) rows → Keeps (versioned_columns version b ∷ []) rows → a ≡ b
@@ -162,9 +153,6 @@ module _ (r q : Register) (db : Database) (stored : IsStored r) (stored_too : Is
   rise_too : AreUp q
   rise_too = (stored_too.ordered, stored_too.numbered)
 
-  lists : (t : Contents) → Has t db → HasLists t db
-  lists t h = record { schema = inr h.schema; agents = h.agents; filings = h.filings; statements = h.statements; interests = h.interests; identifiers = h.identifiers }
-
   registers : register_row r ≡ register_row q
   registers = one_row tables_version (register_row r) (register_row q) (db.trees 0) has.register has_too.register
 
@@ -182,7 +170,7 @@ module _ (r q : Register) (db : Database) (stored : IsStored r) (stored_too : Is
 
   pub one_register : r ≡ q
   one_register =
-      let members = one_list r q db rise rise_too (lists (contents r) has) (lists (contents q) has_too) periods in
+      let members = one_list r q db rise rise_too (lists_of has) (lists_of has_too) periods in
       λ k. record { day = (registers k).day; registrar = (registers k).registrar; members = members k }
 
 -- the same of what the last commit left

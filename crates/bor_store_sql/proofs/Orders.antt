@@ -1,5 +1,5 @@
 -- The rows of each table rise by its primary key.
-use Rattle.std.proofs.Common.{◌≡◌, ℕ, ℤ, pos, ◌+◌, ◌<◌, true, List, [], ◌∷◌, ◌++◌, map, refl, sym, ap, ap₂, ◌∙◌, arith, Less, Equal, Greater}
+use Rattle.std.proofs.Common.{◌≡◌, ℕ, ℤ, pos, ◌+◌, ◌<◌, true, List, [], ◌∷◌, ◌++◌, map, refl, sym, ap₂, ◌∙◌, arith, Less, Equal, Greater}
 use Rattle.std.specs.List.{AllByRecursion, flat_map}
 use Rattle.std.specs.Ordering.{is_lt, nat_cmp, ordering_then}
 use Rattle.std.specs.declared.cmp.Ordering.{Ordering}
@@ -14,7 +14,7 @@ use Rattle.sqlite_sql.specs.Query.{key_cmp}
 use Rattle.sqlite_value.specs.declared.keys.Key.{Key}
 use Rattle.sqlite_value.specs.Keys.{ascending}
 use Rattle.sqlite_value.proofs.OrderLemmas.{value_cmp-Text, value_cmp_total}
-use Rattle.sqlite_keyed.proofs.ListLemmas.{all-map}
+use Rattle.sqlite_keyed.proofs.ListLemmas.{all-map, map-map}
 use Rattle.bor_terms.specs.Texts.{is_below}
 use Rattle.bods_read.specs.declared.details.Identifier.{Identifier}
 use Rattle.bods_read.specs.declared.interest.Interest.{Interest}
@@ -30,6 +30,7 @@ use Rattle.bor_store_sql.specs.Rows.Encoding.{filing_columns, filing_rows}
 use Rattle.bor_store_sql.specs.Rows.Stored.{AllNumbered}
 use Rattle.bor_store_sql.proofs.Rowids.{lower_id}
 use Rattle.bor_store_sql.proofs.Rising.{members_rise, lists_rise, filings_rise, statements_rise, owned_by}
+use Rattle.bor_store_sql.proofs.OnRows.Each.{each_identifier, each_interest}
 
 less_is : (o : Ordering) → is_lt o ≡ true → o ≡ Less
 less_is Less e = refl
@@ -86,13 +87,9 @@ owned (m ∷ ms) = map (owned_filing m.name) m.filings ++ owned ms
 abbrev pub whole : Owned → Row
 whole o = filing_columns o.agent o.filing
 
-same_rows : (name : List ℕ) (fs : List AcceptedFiling) → map (filing_columns name) fs ≡ map whole (map (owned_filing name) fs)
-same_rows name [] = refl
-same_rows name (f ∷ fs) = ap (λ l. filing_columns name f ∷ l) (same_rows name fs)
-
 pub filing_rows_are : (ms : List Member) → filing_rows ms ≡ map whole (owned ms)
 filing_rows_are [] = refl
-filing_rows_are (m ∷ ms) = ap₂ (λ x y. x ++ y) (same_rows m.name m.filings) (filing_rows_are ms) ∙ sym (map-append whole (map (owned_filing m.name) m.filings) (owned ms))
+filing_rows_are (m ∷ ms) = ap₂ (λ x y. x ++ y) (sym (map-map whole (owned_filing m.name) m.filings)) (filing_rows_are ms) ∙ sym (map-append whole (map (owned_filing m.name) m.filings) (owned ms))
 
 abbrev pub filing_keys : Owned → Row
 filing_keys o = Text o.agent ∷ Int (pos o.filing.number) ∷ []
@@ -155,47 +152,25 @@ at_same_place at m n lt = rw (text_same at.agent, int_same (pos at.filing), int_
 abbrev pub IsInterestBefore : InterestRow → InterestRow → Type 0
 IsInterestBefore i j = IsLowerItem i.at i.item j.at j.item
 
-later_interests : (at : At) (x : InterestRow) (m n : ℕ) (is : List Interest) → x.at ≡ at → x.item ≡ m → m < n → AllByRecursion (IsInterestBefore x) (interests_from at n is)
-later_interests at x m n [] same e lt = tt
-later_interests at x m n (i ∷ is) same e lt = (rw (same, e) (at_same_place at m n lt), later_interests at x m (n + 1) is same e (omega (arith, lt)))
-
 interests_rise : (at : At) (n : ℕ) (is : List Interest) → IsAscending IsInterestBefore (interests_from at n is)
 interests_rise at n [] = tt
-interests_rise at n (i ∷ is) = (later_interests at (record { at = at; item = n; interest = i }) n (n + 1) is refl refl (omega arith), interests_rise at (n + 1) is)
-
-after_interest : (a b : At) (m n : ℕ) (x : InterestRow) (is : List Interest) → x.at ≡ a → IsLowerPlace a b → AllByRecursion (IsInterestBefore x) (interests_from b n is)
-after_interest a b m n x [] same lt = tt
-after_interest a b m n x (i ∷ is) same lt = (rw same (at_lower_place a b x.item n lt), after_interest a b m (n + 1) x is same lt)
-
-across_interests : (a b : At) (n : ℕ) (is js : List Interest) → IsLowerPlace a b → AllByRecursion (λ x. AllByRecursion (IsInterestBefore x) (interests_from b 1 js)) (interests_from a n is)
-across_interests a b n [] js lt = tt
-across_interests a b n (i ∷ is) js lt = (after_interest a b n 1 (record { at = a; item = n; interest = i }) js refl lt, across_interests a b (n + 1) is js lt)
+interests_rise at n (i ∷ is) = (each_interest (IsInterestBefore (record { at = at; item = n; interest = i })) at (n + 1) is (λ item j low. at_same_place at n item (omega (arith, low))), interests_rise at (n + 1) is)
 
 pub interest_rows_rise : (ms : List Member) → IsOrdered ms → AllNumbered ms → IsAscending IsInterestBefore (flat_map interest_rows (placed ms))
 interest_rows_rise ms names numbers =
     lists_rise IsPlacedBefore IsInterestBefore interest_rows (λ p. interests_rise p.at 1 (interests_listed p.statement.details))
-    (λ p q lt. across_interests p.at q.at 1 (interests_listed p.statement.details) (interests_listed q.statement.details) lt) (placed ms) (placed_rise ms names numbers)
+    (λ p q lt. each_interest (λ x. AllByRecursion (IsInterestBefore x) (interest_rows q)) p.at 1 (interests_listed p.statement.details)
+    (λ m i from. each_interest (IsInterestBefore (record { at = p.at; item = m; interest = i })) q.at 1 (interests_listed q.statement.details) (λ n j first. at_lower_place p.at q.at m n lt))) (placed ms) (placed_rise ms names numbers)
 
 abbrev pub IsIdentifierBefore : IdentifierRow → IdentifierRow → Type 0
 IsIdentifierBefore i j = IsLowerItem i.at i.item j.at j.item
 
-later_identifiers : (at : At) (x : IdentifierRow) (m n : ℕ) (is : List Identifier) → x.at ≡ at → x.item ≡ m → m < n → AllByRecursion (IsIdentifierBefore x) (identifiers_from at n is)
-later_identifiers at x m n [] same e lt = tt
-later_identifiers at x m n (i ∷ is) same e lt = (rw (same, e) (at_same_place at m n lt), later_identifiers at x m (n + 1) is same e (omega (arith, lt)))
-
 identifiers_rise : (at : At) (n : ℕ) (is : List Identifier) → IsAscending IsIdentifierBefore (identifiers_from at n is)
 identifiers_rise at n [] = tt
-identifiers_rise at n (i ∷ is) = (later_identifiers at (record { at = at; item = n; identifier = i }) n (n + 1) is refl refl (omega arith), identifiers_rise at (n + 1) is)
-
-after_identifier : (a b : At) (n : ℕ) (x : IdentifierRow) (is : List Identifier) → x.at ≡ a → IsLowerPlace a b → AllByRecursion (IsIdentifierBefore x) (identifiers_from b n is)
-after_identifier a b n x [] same lt = tt
-after_identifier a b n x (i ∷ is) same lt = (rw same (at_lower_place a b x.item n lt), after_identifier a b (n + 1) x is same lt)
-
-across_identifiers : (a b : At) (n : ℕ) (is js : List Identifier) → IsLowerPlace a b → AllByRecursion (λ x. AllByRecursion (IsIdentifierBefore x) (identifiers_from b 1 js)) (identifiers_from a n is)
-across_identifiers a b n [] js lt = tt
-across_identifiers a b n (i ∷ is) js lt = (after_identifier a b 1 (record { at = a; item = n; identifier = i }) js refl lt, across_identifiers a b (n + 1) is js lt)
+identifiers_rise at n (i ∷ is) = (each_identifier (IsIdentifierBefore (record { at = at; item = n; identifier = i })) at (n + 1) is (λ item j low. at_same_place at n item (omega (arith, low))), identifiers_rise at (n + 1) is)
 
 pub identifier_rows_rise : (ms : List Member) → IsOrdered ms → AllNumbered ms → IsAscending IsIdentifierBefore (flat_map identifier_rows (placed ms))
 identifier_rows_rise ms names numbers =
     lists_rise IsPlacedBefore IsIdentifierBefore identifier_rows (λ p. identifiers_rise p.at 1 (identifiers_listed p.statement.details))
-    (λ p q lt. across_identifiers p.at q.at 1 (identifiers_listed p.statement.details) (identifiers_listed q.statement.details) lt) (placed ms) (placed_rise ms names numbers)
+    (λ p q lt. each_identifier (λ x. AllByRecursion (IsIdentifierBefore x) (identifier_rows q)) p.at 1 (identifiers_listed p.statement.details)
+    (λ m i from. each_identifier (IsIdentifierBefore (record { at = p.at; item = m; identifier = i })) q.at 1 (identifiers_listed q.statement.details) (λ n j first. at_lower_place p.at q.at m n lt))) (placed ms) (placed_rise ms names numbers)

@@ -12,7 +12,7 @@ use Rattle.sqlite.specs.Query.{Query, Output, as_count, output, output_cmp, IsAn
 use Rattle.sqlite.specs.Program.{overlay}
 use Rattle.sqlite_sql.proofs.QueryLemmas.{output_cmp_total}
 use Rattle.sqlite_value.specs.declared.keys.Key.{Key}
-use Rattle.sqlite_keyed.proofs.ListLemmas.{map-map, map_same, filter-map, filter_same, ascending-map, ascending_weaker, all-append, all_map}
+use Rattle.sqlite_keyed.proofs.ListLemmas.{all_of, filter_all, map-map, map_same, filter-map, filter_same, ascending-map, ascending_weaker, all-append, all_map}
 use Rattle.sqlite_keyed.proofs.SortLemmas.{sorted_unique}
 use Rattle.bor_store_sql.specs.Texts.Queries.{table_query, first_query, later_query}
 use Rattle.bor_store_sql.specs.Kept.{Keeps}
@@ -21,8 +21,7 @@ use Rattle.bor_store_sql.proofs.Selects.{env, keeps}
 use Rattle.bor_store_sql.proofs.Tables.{selected, come_first, come_later}
 
 pub all_pass : {X : Type 0} (xs : List X) → filter (λ x. true) xs ≡ xs
-all_pass [] = refl
-all_pass (x ∷ xs) = ap (λ l. x ∷ l) (all_pass xs)
+all_pass xs = filter_all (λ x. true) xs (all_of (λ x. true ≡ true) (λ x. refl) xs)
 
 pub filter_both : {X : Type 0} (p q : X → Bool) (xs : List X) → filter (λ x. p x && q x) xs ≡ filter q (filter p xs)
 filter_both p q [] = refl

@@ -26,7 +26,8 @@ use Rattle.bor_store_sql.specs.Beside.{HasIndexes, HasTables, MakesOnly, PutsReg
 use Rattle.bor_store_sql.specs.Kept.{Keeps}
 use Rattle.bor_store_sql.proofs.Unread.{unread, unread_all}
 use Rattle.bor_store_sql.specs.Rows.Encoding.{register_columns}
-use Rattle.bor_store_sql.specs.Texts.Changes.{insert_register_text, insert_register_terms}
+use Rattle.bor_store_sql.specs.Texts.Changes.{insert_register_terms}
+use Rattle.bor_store_sql.specs.declared.texts.changes.TheConstants.{INSERT_REGISTER}
 use Rattle.bor_store_sql.specs.Texts.Tables.{agent_table, filing_table, period_table, register_table}
 use Rattle.bor_store_sql.proofs.AnySchema.{IsInsert, putting_means}
 use Rattle.bor_store_sql.proofs.Creating.{first_register, given_register, row_kept}
@@ -75,15 +76,15 @@ module _ (old new : Database) (tree : ℕ) (schema_is : new.schema ≡ old.schem
 
 module _ (registrar : List ℕ) (day : ℤ) where
   -- the register's table is found without rows, and the row is put into it
-  pub register_put_beside : (old new : State) (count : ℕ) → Executes insert_register_text (given_register day registrar) old new (Ok count) → PutsRegister (first_register registrar day) old.now new.now
+  pub register_put_beside : (old new : State) (count : ℕ) → Executes INSERT_REGISTER.now (given_register day registrar) old new (Ok count) → PutsRegister (first_register registrar day) old.now new.now
   register_put_beside old new count h before adds sound =
       let x = register_columns (first_register registrar day) in
       let tree = adds.tables.0 in
       let own = adds.tables.2 in
       let schema = old.now.schema in
       let table : Table = record register_table { tree = tree } in
-      let means = understood_insert own.place (Values insert_register_terms 5) _ (putting_means schema register_table own.place tree (Values insert_register_terms 5) refl own.named own.found insert_register_text insert_register_reads) in
-      let made : Inserted schema table x old.now new.now = inserts insert_register_text (given_register day registrar) schema own.place insert_register_terms 5 table x means.0 means.1 own.found refl refl refl (row_kept registrar day) (λ row. none_set_off schema Enforced 0 tree (row ∷ [])) old new count refl h in
+      let means = understood_insert own.place (Values insert_register_terms 5) _ (putting_means schema register_table own.place tree (Values insert_register_terms 5) refl own.named own.found INSERT_REGISTER.now insert_register_reads) in
+      let made : Inserted schema table x old.now new.now = inserts INSERT_REGISTER.now (given_register day registrar) schema own.place insert_register_terms 5 table x means.0 means.1 own.found refl refl refl (row_kept registrar day) (λ row. none_set_off schema Enforced 0 tree (row ∷ [])) old new count refl h in
       let others = blank agent_table ∷ blank filing_table ∷ details ++ blank period_table ∷ [] in
       record {
         sound = made.sound;

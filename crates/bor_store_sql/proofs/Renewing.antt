@@ -1,15 +1,14 @@
 -- The effects of the UPDATE of an agent's token.
-use Rattle.std.proofs.Common.{◌≡◌, ◌≤◌, ℕ, pos, Bool, true, false, cond, List, [], ◌∷◌, ◌++◌, map, filter, length, drop, ◌==◌, arith, refl, sym, ap, subst, ◌∙◌}
+use Rattle.std.proofs.Common.{◌≡◌, ◌≤◌, ℕ, pos, Bool, true, false, cond, List, [], ◌∷◌, ◌++◌, map, filter, length, drop, arith, refl, sym, ap, subst, ◌∙◌}
 use Rattle.std.specs.Prelude.{if◌then◌else◌, All}
-use Rattle.std.specs.List.{AllByRecursion, flat_map, filter_map}
+use Rattle.std.specs.List.{AllByRecursion, flat_map}
 use Rattle.std.proofs.Math.Bool.{and-true}
 use Rattle.std.proofs.lemmas.List.Elements.{All-cons, All-head, All-tail}
 use Rattle.sqlite.specs.declared.types.Value.TheVariants.{Null, Text}
 use Rattle.sqlite.specs.Order.{Row, column}
 use Rattle.sqlite.specs.Term.{Term, col}
 use Rattle.sqlite.specs.Effect.{Database}
-use Rattle.sqlite_rules.specs.Action.{Work, works, work_by, pairs, deed_for}
-use Rattle.sqlite_schema.specs.Rules.{parent_key}
+use Rattle.sqlite_rules.specs.Action.{works}
 use Rattle.sqlite_rules.specs.Cast.{cast_row}
 use Rattle.sqlite_schema.specs.declared.schema.Keys.TheVariants.{Enforced}
 use Rattle.bor_terms.specs.Texts.{is_same, is_token}
@@ -21,7 +20,8 @@ use Rattle.bor_register.specs.declared.filing.AcceptedFiling.{AcceptedFiling}
 use Rattle.bor_register.specs.declared.member.Member.{Member}
 use Rattle.bor_store_sql.specs.Texts.Tables.{keep_schema, agent_at}
 use Rattle.bor_store_sql.specs.Texts.Queries.{equals}
-use Rattle.bor_store_sql.specs.Texts.Changes.{update_token_text, update_token_program}
+use Rattle.bor_store_sql.specs.Texts.Changes.{update_token_program}
+use Rattle.bor_store_sql.specs.declared.texts.changes.TheConstants.{UPDATE_TOKEN}
 use Rattle.bor_store_sql.proofs.OnTexts.ChangeMeanings.{update_token_is}
 use Rattle.bor_store_sql.specs.Rows.Placed.{bare, placed, placed_by, interest_rows, identifier_rows}
 use Rattle.bor_store_sql.specs.Rows.Stored.{AllNumbered, AreCounted, IsStored}
@@ -31,22 +31,15 @@ use Rattle.bor_store_sql.specs.Shown.{ChangesContents, Has}
 use Rattle.bor_store_sql.specs.Changing.{days_of, is_of_agent, renewed, with_token_row, IsOneAgent}
 use Rattle.bor_store_sql.proofs.Inserts.{cast_int}
 use Rattle.bor_store_sql.proofs.Moves.{Making}
-use Rattle.bor_store_sql.proofs.Writes.{updates}
+use Rattle.bor_store_sql.proofs.Writes.{updates, no_key_acts}
 use Rattle.bor_store_sql.proofs.Tables.{updated}
 use Rattle.bor_store_sql.proofs.Selects.{text_test}
 use Rattle.bor_store_sql.proofs.Members.{apart_names}
-use Rattle.bor_store_sql.proofs.Others.{with_agents}
+use Rattle.bor_store_sql.proofs.Others.{one_changed}
 
 -- no key acts where an agent's row changes
-abbrev works_by : List Row → List Row → Bool → List Work
-works_by olds news none = flat_map (λ child. filter_map (λ ref. work_by 0 2 (pairs olds news) child ref (deed_for Enforced none ref) (parent_key keep_schema.tables ref)) child.references) keep_schema.tables
-
 agent_alone : (olds news : List Row) → works keep_schema Enforced 0 2 olds news ≡ []
-agent_alone olds news = go (length news == 0)
-  where
-    go : (b : Bool) → works_by olds news b ≡ []
-    go true = refl
-    go false = refl
+agent_alone = no_key_acts 2 (λ olds news. refl) (λ olds news. refl)
 
 abbrev agent_tests : List Term
 agent_tests = equals 1 0 ∷ []
@@ -83,13 +76,13 @@ module _ (agent token : List ℕ) where
   abbrev token_of : Row → Row
   token_of r = column r 0 ∷ column r 0 ∷ column r 1 ∷ Text token ∷ []
 
-  pub token_updated : Making update_token_text token_params (ChangesContents (IsOneAgent agent) (with_token_row agent token))
+  pub token_updated : Making UPDATE_TOKEN.now token_params (ChangesContents (IsOneAgent agent) (with_token_row agent token))
   token_updated old new count h t has one =
-      let done = updates update_token_text token_params keep_schema 1 update_token_program agent_at update_token_is.0 update_token_is.1 refl agent_alone old new count has.schema h in
+      let done = updates UPDATE_TOKEN.now token_params keep_schema 1 update_token_program agent_at update_token_is.0 update_token_is.1 refl agent_alone old new count has.schema h in
       let w = done.2 in
-      with_agents t old.now new.now w.sound w.schema_is has w.others _
+      one_changed 2 old.now new.now w.others _
       (updated 2 refl agent_tests token_params (is_of_agent agent) (λ id x. refl) token_terms token_of (λ s. cast_row agent_at (drop 1 s)) (renewed token)
-      (λ r. refl) (λ id x. refl) (λ id x. rw (cast_int (pos id)) refl) old.now.trees t.agents done.0 (new.now.trees 2) has.agents one (done.1.answer Null) w.rows_are)
+      (λ r. refl) (λ id x. refl) (λ id x. rw (cast_int (pos id)) refl) old.now.trees t.agents done.0 (new.now.trees 2) has.agents one (done.1.answer Null) w.rows_are) t w.sound w.schema_is has
 
   abbrev renew : Row → Row
   renew x = cond (is_of_agent agent x) (renewed token x) x

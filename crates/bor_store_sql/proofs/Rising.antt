@@ -12,6 +12,8 @@ use Rattle.bor_store_sql.specs.declared.rows.places.At.{At}
 use Rattle.bor_store_sql.specs.declared.rows.typed.Placed.{Placed}
 use Rattle.bor_store_sql.specs.Rows.Placed.{placed_from, placed_by}
 use Rattle.bor_store_sql.specs.Rows.Stored.{AreNumbered, AllNumbered}
+use Rattle.bor_store_sql.specs.Fitting.{standing}
+use Rattle.bor_store_sql.proofs.OnRows.Each.{each_by, each_from, each_own}
 
 module _ {X : Type 0} (R : X → X → Type 0) (own : List ℕ → List AcceptedFiling → List X) (all : List Member → List X) (none : all [] ≡ []) (some : (m : Member) (ms : List Member) → all (m ∷ ms) ≡ own m.name m.filings ++ all ms)
     (owner : X → List ℕ) (owned : (name : List ℕ) (fs : List AcceptedFiling) → AllByRecursion (λ x. owner x ≡ name) (own name fs)) (by_name : (x y : X) → is_below (owner x) (owner y) ≡ true → R x y)
@@ -58,38 +60,16 @@ module _ (R : At → At → Type 0) (by_number : (name : List ℕ) (m n i j : �
   abbrev Up : Placed → Placed → Type 0
   Up p q = R p.at q.at
 
-  later_places : (name : List ℕ) (filing i n : ℕ) (ss : List Statement) → i < n → AllByRecursion (λ (q : Placed). R (record { agent = name; filing = filing; place = i }) q.at) (placed_from name filing n ss)
-  later_places name filing i n [] lt = tt
-  later_places name filing i n (s ∷ ss) lt = (by_place name filing i n lt, later_places name filing i (n + 1) ss (omega (arith, lt)))
-
   from_rise : (name : List ℕ) (filing n : ℕ) (ss : List Statement) → IsAscending Up (placed_from name filing n ss)
   from_rise name filing n [] = tt
-  from_rise name filing n (s ∷ ss) = (later_places name filing n (n + 1) ss (omega arith), from_rise name filing (n + 1) ss)
-
-  later_filing : (name : List ℕ) (m i filing n : ℕ) (ss : List Statement) → m < filing → AllByRecursion (λ (q : Placed). R (record { agent = name; filing = m; place = i }) q.at) (placed_from name filing n ss)
-  later_filing name m i filing n [] lt = tt
-  later_filing name m i filing n (s ∷ ss) lt = (by_number name m filing i n lt, later_filing name m i filing (n + 1) ss lt)
-
-  later_filings : (name : List ℕ) (m i n : ℕ) (fs : List AcceptedFiling) → m < n → AreNumbered n fs → AllByRecursion (λ (q : Placed). R (record { agent = name; filing = m; place = i }) q.at) (placed_by name fs)
-  later_filings name m i n [] lt up = tt
-  later_filings name m i n (f ∷ fs) lt up =
-      all-append _ (placed_from name f.number 1 f.statements) (placed_by name fs) (later_filing name m i f.number 1 f.statements (let e = up.0 in omega (arith, lt, e))) (later_filings name m i (n + 1) fs (omega (arith, lt)) up.1)
-
-  cross_filings : (name : List ℕ) (m i n : ℕ) (ss : List Statement) (fs : List AcceptedFiling) → m < n → AreNumbered n fs → AllByRecursion (λ (p : Placed). AllByRecursion (Up p) (placed_by name fs)) (placed_from name m i ss)
-  cross_filings name m i n [] fs lt up = tt
-  cross_filings name m i n (s ∷ ss) fs lt up = (later_filings name m i n fs lt up, cross_filings name m (i + 1) n ss fs lt up)
+  from_rise name filing n (s ∷ ss) = (each_from (Up (standing name filing n s)) name filing (n + 1) ss (λ place t low. by_place name filing n place (omega (arith, low))), from_rise name filing (n + 1) ss)
 
   pub statements_rise : (name : List ℕ) (n : ℕ) (fs : List AcceptedFiling) → AreNumbered n fs → IsAscending Up (placed_by name fs)
   statements_rise name n [] up = tt
   statements_rise name n (f ∷ fs) up =
       ascending-append Up (placed_from name f.number 1 f.statements) (placed_by name fs) (from_rise name f.number 1 f.statements) (statements_rise name (n + 1) fs up.1)
-      (cross_filings name f.number 1 (n + 1) f.statements fs (let e = up.0 in omega (arith, e)) up.1)
-
--- whose they are
-pub owned_from : (name : List ℕ) (filing n : ℕ) (ss : List Statement) → AllByRecursion (λ (p : Placed). p.at.agent ≡ name) (placed_from name filing n ss)
-owned_from name filing n [] = tt
-owned_from name filing n (s ∷ ss) = (refl, owned_from name filing (n + 1) ss)
+      (each_from (λ p. AllByRecursion (Up p) (placed_by name fs)) name f.number 1 f.statements
+      (λ place s from. each_by (Up (standing name f.number place s)) name (n + 1) fs up.1 (λ filing other t low. by_number name f.number filing place other (let e = up.0 in omega (arith, e, low)))))
 
 pub owned_by : (name : List ℕ) (fs : List AcceptedFiling) → AllByRecursion (λ (p : Placed). p.at.agent ≡ name) (placed_by name fs)
-owned_by name [] = tt
-owned_by name (f ∷ fs) = all-append _ (placed_from name f.number 1 f.statements) (placed_by name fs) (owned_from name f.number 1 f.statements) (owned_by name fs)
+owned_by name fs = each_own (λ p. p.at.agent ≡ name) name fs (λ filing place s. refl)

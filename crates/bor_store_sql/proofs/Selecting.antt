@@ -1,14 +1,12 @@
 -- The rows that each query gives of a register that is shown.
-use Rattle.std.proofs.Common.{◌≡◌, ℕ, pos, ◌+◌, ◌<◌, Bool, true, false, ◌&&◌, ◌==◌, List, [], ◌∷◌, ◌++◌, map, filter, take, drop, reverse, Some, None, refl, sym, ap, ap₂, subst, ◌∙◌, arith}
-use Rattle.std.specs.List.{AllByRecursion, flat_map}
-use Rattle.std.specs.Ordering.{is_eq, int_cmp}
+use Rattle.std.proofs.Common.{◌≡◌, ℕ, pos, ◌<◌, Bool, true, false, ◌&&◌, ◌==◌, List, [], ◌∷◌, map, filter, take, drop, reverse, Some, None, refl, sym, ap, ap₂, subst, ◌∙◌}
+use Rattle.std.specs.List.{flat_map}
+use Rattle.std.specs.Ordering.{is_eq}
 use Rattle.std.specs.Str.{bytes_eq}
-use Rattle.std.proofs.lemmas.Int.{ints}
-use Rattle.std.proofs.lemmas.Bool.Decides.{nat_tests}
-use Rattle.std.proofs.lemmas.List.{map-append, reverse-append}
+use Rattle.std.proofs.lemmas.List.{take-map}
+use Rattle.bor_records.proofs.Backwards.{map_reverse}
 use Rattle.std.proofs.lemmas.Map.Text.{is_eq-slice_cmp}
 use Rattle.std.proofs.Math.Bool.{and-true}
-use Rattle.std.proofs.lemmas.List.Elements.{filter-append}
 use Rattle.sqlite.specs.declared.types.Value.TheVariants.{Null, Int, Text, Blob}
 use Rattle.sqlite.specs.Order.{Row}
 use Rattle.sqlite.specs.Tree.{IsAscending}
@@ -17,41 +15,34 @@ use Rattle.sqlite.specs.Collation.TheVariants.{Binary}
 use Rattle.sqlite_sql.specs.declared.ops.BinaryOp.TheVariants.{Compare}
 use Rattle.sqlite_sql.specs.declared.ops.CompareOp.TheVariants.{Eq}
 use Rattle.sqlite_value.proofs.OrderLemmas.{value_cmp-Blob}
-use Rattle.sqlite_keyed.proofs.ListLemmas.{map-map, filter-map, ascending-filter, filter_all, filter_none}
+use Rattle.sqlite_keyed.proofs.ListLemmas.{all_of, map-map, ascending-filter}
 use Rattle.bor_terms.specs.Texts.{is_same}
 use Rattle.bods_read.specs.declared.details.Details.{Details}
 use Rattle.bods_read.specs.declared.details.Details.TheVariants as details
-use Rattle.bods_read.specs.declared.details.Identifier.{Identifier}
-use Rattle.bods_read.specs.declared.interest.Interest.{Interest}
-use Rattle.bor_register.specs.declared.filing.AcceptedFiling.{AcceptedFiling}
-use Rattle.bor_register.specs.declared.member.Member.{Member}
-use Rattle.bor_register.specs.Register.{IsOrdered, filings_of}
+use Rattle.bor_register.specs.Register.{filings_of}
 use Rattle.bor_register.specs.Publication.{filing_shown}
-use Rattle.bor_store_sql.specs.Texts.Queries.{falling, all_register_text, all_register_query, all_agents_text, all_agents_query, all_statements_text, all_statements_query, all_interests_text, all_interests_query, all_identifiers_text, all_identifiers_query, more_statements_text, more_statements_query, agent_by_name_text, agent_by_name_query, agent_by_token_text, agent_by_token_query, filing_by_key_text, filing_by_key_query, line_by_key_text, line_by_key_query, line_by_number_text, line_by_number_query, same_bytes_text, same_bytes_query, filings_of_agent_text, filings_of_agent_query, last_filing_text, last_filing_query, last_of_series_text, last_of_series_query, statement_by_id_text, statement_by_id_query, statements_of_declaration_text, statements_of_declaration_query, statements_of_series_text, statements_of_series_query, statements_of_record_text, statements_of_record_query, statements_of_subject_text, statements_of_subject_query, statement_by_place_text, statement_by_place_query, identifiers_by_id_text, identifiers_by_id_query}
+use Rattle.bor_store_sql.specs.Texts.Queries.{falling, all_register_query, more_statements_query, last_filing_query, last_of_series_query, statements_of_subject_query}
+use Rattle.bor_store_sql.specs.declared.texts.queries.TheConstants.{ALL_REGISTER, ALL_AGENTS, ALL_STATEMENTS, ALL_INTERESTS, ALL_IDENTIFIERS, MORE_STATEMENTS, AGENT_BY_NAME, AGENT_BY_TOKEN, FILING_BY_KEY, LINE_BY_KEY, LINE_BY_NUMBER, SAME_BYTES, FILINGS_OF_AGENT, LAST_FILING, LAST_OF_SERIES, STATEMENT_BY_ID, STATEMENTS_OF_DECLARATION, STATEMENTS_OF_SERIES, STATEMENTS_OF_RECORD, STATEMENTS_OF_SUBJECT, STATEMENT_BY_PLACE, IDENTIFIERS_BY_ID}
 use Rattle.bor_store_sql.proofs.OnTexts.QueryMeanings.{all_register_is, all_agents_is, all_statements_is, all_interests_is, all_identifiers_is, more_statements_is, agent_by_name_is, agent_by_token_is, filing_by_key_is, line_by_key_is, line_by_number_is, same_bytes_is, filings_of_agent_is, last_filing_is, last_of_series_is, statement_by_id_is, statements_of_declaration_is, statements_of_series_is, statements_of_record_is, statements_of_subject_is, statement_by_place_is, identifiers_by_id_is}
 use Rattle.bor_store_sql.specs.declared.rows.places.At.{At}
 use Rattle.bor_store_sql.specs.declared.rows.typed.Placed.{Placed}
-use Rattle.bor_store_sql.specs.declared.rows.typed.InterestRow.{InterestRow}
-use Rattle.bor_store_sql.specs.declared.rows.typed.IdentifierRow.{IdentifierRow}
-use Rattle.bor_store_sql.specs.Rows.Placed.{same_place, bare, filing_row, filing_lines, placed, placed_by, interest_rows, identifier_rows, interests_from, identifiers_from}
+use Rattle.bor_store_sql.specs.Rows.Placed.{same_place, bare, filing_row, placed, interest_rows, identifier_rows}
 use Rattle.bor_store_sql.specs.Rows.Encoding.{truth, register_columns, agent_columns, filing_rows, line_columns, shown_columns, statement_columns, interest_columns, identifier_columns}
 use Rattle.bor_store_sql.specs.Selected.{members_named, members_having, keyed, numbered, last, placed_of, in_declaration, in_series, identified, place_columns, in_record, names_subject, with_subject, standing_at, identified_by}
 use Rattle.bor_store_sql.specs.Changing.{row_passes}
 use Rattle.bor_store_sql.specs.Shown.{ShowsIn}
-use Rattle.bor_store_sql.proofs.Finding.{Gives, answers, has_now}
+use Rattle.bor_store_sql.proofs.Finding.{Found, answers, asked_now, found_as, has_now}
 use Rattle.bor_store_sql.proofs.FromTables.{from_agents, from_filings, from_statements, from_interests, from_identifiers, statement_shown, interest_shown}
-use Rattle.bor_store_sql.proofs.Members.{own_alone}
-use Rattle.bor_store_sql.proofs.Orders.{Owned, owned, owned_filing, owners, whole, filing_rows_are, int_same, IsLower}
-use Rattle.bor_store_sql.proofs.Picking.{all_pass, filter_both, picked_rows, picked_last, picked_later}
+use Rattle.bor_store_sql.proofs.OfOne.{own_owned, own_filings, own_statements, number_test, place_params, place_test}
+use Rattle.bor_store_sql.proofs.Orders.{Owned, owned, owned_filing, whole, filing_rows_are, int_same, IsLower}
+use Rattle.bor_store_sql.proofs.Plain.{is_query}
+use Rattle.bor_store_sql.proofs.Picking.{all_pass, picked_rows, picked_last, picked_later}
 use Rattle.bor_store_sql.proofs.Rowids.{lower_id}
-use Rattle.bor_store_sql.proofs.Rising.{filings_rise, statements_rise, owned_by}
+use Rattle.bor_store_sql.proofs.Rising.{filings_rise, statements_rise}
 use Rattle.bor_store_sql.proofs.Selects.{text_test, int_test}
 use Rattle.bor_store_sql.proofs.StoredMembers.{numbered_of}
 
 -- ---- tests of columns
-
-pub number_test : (m n : ℕ) → is_eq (int_cmp (pos m) (pos n)) ≡ (m == n)
-number_test m n = grind (arith, ints, nat_tests)
 
 as_truth : (b : Bool) → from_truth (Some b) ≡ truth b
 as_truth true = refl
@@ -76,79 +67,10 @@ subject_test agent declaration rec q = go q.statement.details
     go (details.Relationship None party interests) = ap₂ (λ x y. x && y) (text_test q.at.agent agent) (ap₂ (λ x y. x && y) (text_test q.statement.declaration declaration) (and-true _ ∙ null_test rec))
     go (details.Relationship (Some subject) party interests) = ap₂ (λ x y. x && y) (text_test q.at.agent agent) (ap₂ (λ x y. x && y) (text_test q.statement.declaration declaration) (and-true _ ∙ text_test subject rec))
 
--- ---- those of one agent
-
-module _ (agent : List ℕ) (ms : List Member) (names : IsOrdered ms) where
-  own_owned : filter (λ (o : Owned). is_same o.agent agent) (owned ms) ≡ map (owned_filing agent) (filings_of agent ms)
-  own_owned = own_alone (λ name fs. map (owned_filing name) fs) owned refl (λ m rest. refl) (λ (o : Owned). o.agent) owners (λ name. refl) agent ms names
-
-  pub own_filings : (q : AcceptedFiling → Bool) (out : Owned → Row) → map out (filter (λ (o : Owned). is_same o.agent agent && q o.filing) (owned ms)) ≡ map (λ f. out (owned_filing agent f)) (filter q (filings_of agent ms))
-  own_filings q out =
-      ap (map out) (filter_both (λ (o : Owned). is_same o.agent agent) (λ (o : Owned). q o.filing) (owned ms) ∙ ap (filter (λ (o : Owned). q o.filing)) own_owned ∙ filter-map (λ (o : Owned). q o.filing) (owned_filing agent) (filings_of agent ms))
-      ∙ map-map out (owned_filing agent) (filter q (filings_of agent ms))
-
-  own_placed : filter (λ (p : Placed). is_same p.at.agent agent) (placed ms) ≡ placed_by agent (filings_of agent ms)
-  own_placed = own_alone placed_by placed refl (λ m rest. refl) (λ (p : Placed). p.at.agent) owned_by (λ name. refl) agent ms names
-
-  pub own_statements : (q : Placed → Bool) → filter (λ (p : Placed). is_same p.at.agent agent && q p) (placed ms) ≡ filter q (placed_by agent (filings_of agent ms))
-  own_statements q = filter_both (λ (p : Placed). is_same p.at.agent agent) q (placed ms) ∙ ap (filter q) own_placed
-
-lines_of : (name : List ℕ) (fs : List AcceptedFiling) → map (λ (o : Owned). line_columns (filing_row o.agent o.filing)) (map (owned_filing name) fs) ≡ map line_columns (map (filing_row name) fs)
-lines_of name [] = refl
-lines_of name (f ∷ fs) = ap (λ l. line_columns (filing_row name f) ∷ l) (lines_of name fs)
-
-pub lines_are : (ms : List Member) → map (λ (o : Owned). line_columns (filing_row o.agent o.filing)) (owned ms) ≡ map line_columns (filing_lines ms)
-lines_are [] = refl
-lines_are (m ∷ ms) =
-    map-append (λ (o : Owned). line_columns (filing_row o.agent o.filing)) (map (owned_filing m.name) m.filings) (owned ms) ∙ ap₂ (λ x y. x ++ y) (lines_of m.name m.filings) (lines_are ms)
-    ∙ sym (map-append line_columns (map (filing_row m.name) m.filings) (filing_lines ms))
-
--- ---- those of one statement
-
-abbrev pub place_params : At → Row
-place_params at = Text at.agent ∷ Int (pos at.filing) ∷ Int (pos at.place) ∷ []
-
-module _ {X : Type 0} (at_of : X → At) (t : At → Bool) (rows : Placed → List X) (own : (p : Placed) → AllByRecursion (λ x. at_of x ≡ p.at) (rows p)) where
-  passed : (at : At) (b : Bool) → t at ≡ b → (xs : List X) → AllByRecursion (λ x. at_of x ≡ at) xs → AllByRecursion (λ x. t (at_of x) ≡ b) xs
-  passed at b e [] h = tt
-  passed at b e (x ∷ xs) h = (ap t h.0 ∙ e, passed at b e xs h.1)
-
-  pub rows_at : (ps : List Placed) → filter (λ x. t (at_of x)) (flat_map rows ps) ≡ flat_map rows (filter (λ (p : Placed). t p.at) ps)
-  rows_at [] = refl
-  rows_at (p ∷ ps) = filter-append (λ x. t (at_of x)) (rows p) (flat_map rows ps) ∙ go (t p.at) refl (rows_at ps)
-    where
-      go : (b : Bool) → t p.at ≡ b → filter (λ x. t (at_of x)) (flat_map rows ps) ≡ flat_map rows (filter (λ (p : Placed). t p.at) ps)
-          → filter (λ x. t (at_of x)) (rows p) ++ filter (λ x. t (at_of x)) (flat_map rows ps) ≡ flat_map rows (filter (λ (p : Placed). t p.at) (p ∷ ps))
-      go true e more = rw e (ap₂ (λ x y. x ++ y) (filter_all (λ x. t (at_of x)) (rows p) (passed p.at true e (rows p) (own p))) more)
-      go false e more = rw e (ap₂ (λ x y. x ++ y) (filter_none (λ x. t (at_of x)) (rows p) (passed p.at false e (rows p) (own p))) more)
-
-pub interests_stand : (at : At) (n : ℕ) (is : List Interest) → AllByRecursion (λ (i : InterestRow). i.at ≡ at) (interests_from at n is)
-interests_stand at n [] = tt
-interests_stand at n (i ∷ is) = (refl, interests_stand at (n + 1) is)
-
-pub identifiers_stand : (at : At) (n : ℕ) (is : List Identifier) → AllByRecursion (λ (i : IdentifierRow). i.at ≡ at) (identifiers_from at n is)
-identifiers_stand at n [] = tt
-identifiers_stand at n (i ∷ is) = (refl, identifiers_stand at (n + 1) is)
-
--- ---- whether there are more
-
--- each shows a one
-all_one : (ps : List Placed) → AllByRecursion (λ (p : Placed). Int (pos 1) ∷ [] ≡ Int (pos 1) ∷ []) ps
-all_one [] = tt
-all_one (p ∷ ps) = (refl, all_one ps)
-
 -- ---- the last one
 
 last_of_map : {X Y : Type 0} (f : X → Y) (xs : List X) → take 1 (reverse (map f xs)) ≡ map f (take 1 (reverse xs))
-last_of_map f xs = ap (take 1) (turned f xs) ∙ first f (reverse xs)
-  where
-    turned : {X Y : Type 0} (f : X → Y) (xs : List X) → reverse (map f xs) ≡ map f (reverse xs)
-    turned f [] = refl
-    turned f (x ∷ xs) = reverse-append (f x ∷ []) (map f xs) ∙ ap (λ l. l ++ f x ∷ []) (turned f xs) ∙ sym (map-append f (reverse xs) (x ∷ [])) ∙ ap (map f) (sym (reverse-append (x ∷ []) xs))
-
-    first : {X Y : Type 0} (f : X → Y) (xs : List X) → take 1 (map f xs) ≡ map f (take 1 xs)
-    first f [] = refl
-    first f (x ∷ xs) = refl
+last_of_map f xs = ap (take 1) (sym (map_reverse f xs)) ∙ take-map f 1 (reverse xs)
 
 abbrev IsLaterNumber : Owned → Owned → Type 0
 IsLaterNumber a b = a.filing.number < b.filing.number
@@ -167,141 +89,138 @@ later_place name n i j lt = rw (int_same (pos n), lower_id i j lt) refl
 
 -- ---- the queries
 
-pub all_register_found : Gives ShowsIn all_register_text [] (λ r. register_columns r ∷ [])
-all_register_found r old new rows shows h =
-    picked_rows 0 refl all_register_query.filter [] all_register_query.project all_register_query.order (λ id x. refl) register_columns register_columns (λ x. true) (λ x. refl) (r ∷ []) old.now.trees (register_columns r ∷ []) rows refl
-    (has_now r old new shows h.0).register (λ id x. refl) (λ x. refl) (answers r old new shows h.0 all_register_text [] all_register_query _ all_register_is.asks rows h.1) (λ a b. ⊥)
-    (λ a b lt. absurd lt) (tt, tt)
+pub all_register_found : Found ShowsIn ALL_REGISTER.now [] (λ r. register_columns r ∷ [])
+all_register_found = record {
+  query = is_query all_register_is;
+  gives = λ r old new rows shows h.
+      picked_rows 0 refl all_register_query.filter [] all_register_query.project all_register_query.order (λ id x. refl) register_columns register_columns (λ x. true) (λ x. refl) (r ∷ []) old.now.trees (register_columns r ∷ []) rows refl
+      (has_now r old new shows h.0).register (λ id x. refl) (λ x. refl) (answers r old new shows h.0 ALL_REGISTER.now [] all_register_query all_register_is.asks rows h.1) (λ a b. ⊥)
+      (λ a b lt. absurd lt) (tt, tt);
+}
 
-pub all_agents_found : Gives ShowsIn all_agents_text [] (λ r. map agent_columns r.members)
-all_agents_found r old new rows shows h =
-    from_agents r old new shows rows all_agents_text [] _ all_agents_query.filter all_agents_query.project h (λ m. true) (λ m. refl) all_agents_is (λ id x. refl) (λ id x. refl) (λ m. refl) ∙ ap (map agent_columns) (all_pass r.members)
+pub all_agents_found : Found ShowsIn ALL_AGENTS.now [] (λ r. map agent_columns r.members)
+all_agents_found =
+    found_as (from_agents (asked_now all_agents_is) (λ m. true) (λ m. refl) (λ id x. (refl, refl)) (λ m. refl))
+    (λ r s shows. ap (map agent_columns) (all_pass r.members))
 
-pub all_statements_found : Gives ShowsIn all_statements_text [] (λ r. map (λ p. statement_columns (bare p)) (placed r.members))
-all_statements_found r old new rows shows h =
-    from_statements r old new shows rows all_statements_text [] _ all_statements_query.filter all_statements_query.project h (λ p. statement_columns (bare p)) (λ p. true) (λ p. refl) all_statements_is (λ id x. refl) (λ id x. refl) (λ p. statement_shown (bare p))
-    ∙ ap (map (λ p. statement_columns (bare p))) (all_pass (placed r.members))
+pub all_statements_found : Found ShowsIn ALL_STATEMENTS.now [] (λ r. map (λ p. statement_columns (bare p)) (placed r.members))
+all_statements_found =
+    found_as (from_statements (asked_now all_statements_is) (λ p. statement_columns (bare p)) (λ p. true) (λ p. refl) (λ id x. (refl, refl)) (λ p. statement_shown (bare p)))
+    (λ r s shows. ap (map (λ p. statement_columns (bare p))) (all_pass (placed r.members)))
 
-pub all_interests_found : Gives ShowsIn all_interests_text [] (λ r. map interest_columns (flat_map interest_rows (placed r.members)))
-all_interests_found r old new rows shows h =
-    from_interests r old new shows rows all_interests_text [] _ all_interests_query.filter all_interests_query.project h (λ i. true) (λ i. refl) all_interests_is (λ id x. refl) (λ id x. refl) interest_shown
-    ∙ ap (map interest_columns) (all_pass (flat_map interest_rows (placed r.members)))
+pub all_interests_found : Found ShowsIn ALL_INTERESTS.now [] (λ r. map interest_columns (flat_map interest_rows (placed r.members)))
+all_interests_found =
+    found_as (from_interests (asked_now all_interests_is) (λ i. true) (λ i. refl) (λ id x. (refl, refl)) interest_shown)
+    (λ r s shows. ap (map interest_columns) (all_pass (flat_map interest_rows (placed r.members))))
 
-pub all_identifiers_found : Gives ShowsIn all_identifiers_text [] (λ r. map identifier_columns (flat_map identifier_rows (placed r.members)))
-all_identifiers_found r old new rows shows h =
-    from_identifiers r old new shows rows all_identifiers_text [] _ all_identifiers_query.filter all_identifiers_query.project h (λ i. true) (λ i. refl) all_identifiers_is (λ id x. refl) (λ id x. refl) (λ i. refl)
-    ∙ ap (map identifier_columns) (all_pass (flat_map identifier_rows (placed r.members)))
+pub all_identifiers_found : Found ShowsIn ALL_IDENTIFIERS.now [] (λ r. map identifier_columns (flat_map identifier_rows (placed r.members)))
+all_identifiers_found =
+    found_as (from_identifiers (asked_now all_identifiers_is) (λ i. true) (λ i. refl) (λ id x. (refl, refl)) (λ i. refl))
+    (λ r s shows. ap (map identifier_columns) (all_pass (flat_map identifier_rows (placed r.members))))
 
-pub more_statements_found : (count : ℕ) → Gives ShowsIn more_statements_text (Int (pos count) ∷ []) (λ r. map (λ p. Int (pos 1) ∷ []) (take 1 (drop count (placed r.members))))
-more_statements_found count r old new rows shows h =
-    let out : Placed → Row = λ p. Int (pos 1) ∷ [] in
-    picked_later 8 refl more_statements_query.filter (Int (pos count) ∷ []) more_statements_query.project [] (λ id x. refl) (λ p. statement_columns (bare p)) out (λ p. true) (λ p. refl) (placed r.members) old.now.trees
-    (map (λ p. statement_columns (bare p)) (placed r.members)) rows refl (has_now r old new shows h.0).statements 0 count refl (λ id x. refl) (λ p. refl)
-    (answers r old new shows h.0 more_statements_text (Int (pos count) ∷ []) more_statements_query _ more_statements_is.asks rows h.1) (Int (pos 1) ∷ []) (all_one (filter (λ p. true) (placed r.members)))
-    ∙ ap (λ l. map out (take 1 (drop count l))) (all_pass (placed r.members))
+pub more_statements_found : (count : ℕ) → Found ShowsIn MORE_STATEMENTS.now (Int (pos count) ∷ []) (λ r. map (λ p. Int (pos 1) ∷ []) (take 1 (drop count (placed r.members))))
+more_statements_found count = record {
+  query = is_query more_statements_is;
+  gives = λ r old new rows shows h.
+      let out : Placed → Row = λ p. Int (pos 1) ∷ [] in
+      picked_later 8 refl more_statements_query.filter (Int (pos count) ∷ []) more_statements_query.project [] (λ id x. refl) (λ p. statement_columns (bare p)) out (λ p. true) (λ p. refl) (placed r.members) old.now.trees
+      (map (λ p. statement_columns (bare p)) (placed r.members)) rows refl (has_now r old new shows h.0).statements 0 count refl (λ id x. refl) (λ p. refl)
+      (answers r old new shows h.0 MORE_STATEMENTS.now (Int (pos count) ∷ []) more_statements_query more_statements_is.asks rows h.1) (Int (pos 1) ∷ []) (all_of (λ p. out p ≡ Int (pos 1) ∷ []) (λ p. refl) (filter (λ p. true) (placed r.members)))
+      ∙ ap (λ l. map out (take 1 (drop count l))) (all_pass (placed r.members));
+}
 
-pub agent_by_name_found : (name : List ℕ) → Gives ShowsIn agent_by_name_text (Text name ∷ []) (λ r. map agent_columns (members_named name r.members))
-agent_by_name_found name r old new rows shows h =
-    from_agents r old new shows rows agent_by_name_text (Text name ∷ []) _ agent_by_name_query.filter agent_by_name_query.project h (λ m. is_same m.name name) (λ m. and-true _ ∙ text_test m.name name) agent_by_name_is (λ id x. refl) (λ id x. refl) (λ m. refl)
+pub agent_by_name_found : (name : List ℕ) → Found ShowsIn AGENT_BY_NAME.now (Text name ∷ []) (λ r. map agent_columns (members_named name r.members))
+agent_by_name_found name =
+    from_agents (asked_now agent_by_name_is) (λ m. is_same m.name name) (λ m. and-true _ ∙ text_test m.name name) (λ id x. (refl, refl)) (λ m. refl)
 
-pub agent_by_token_found : (token : List ℕ) → Gives ShowsIn agent_by_token_text (Text token ∷ []) (λ r. map agent_columns (members_having token r.members))
-agent_by_token_found token r old new rows shows h =
-    from_agents r old new shows rows agent_by_token_text (Text token ∷ []) _ agent_by_token_query.filter agent_by_token_query.project h (λ m. is_same m.token token) (λ m. and-true _ ∙ text_test m.token token) agent_by_token_is (λ id x. refl) (λ id x. refl) (λ m. refl)
+pub agent_by_token_found : (token : List ℕ) → Found ShowsIn AGENT_BY_TOKEN.now (Text token ∷ []) (λ r. map agent_columns (members_having token r.members))
+agent_by_token_found token =
+    from_agents (asked_now agent_by_token_is) (λ m. is_same m.token token) (λ m. and-true _ ∙ text_test m.token token) (λ id x. (refl, refl)) (λ m. refl)
 
-pub filing_by_key_found : (agent key : List ℕ) → Gives ShowsIn filing_by_key_text (Text agent ∷ Text key ∷ []) (λ r. map (λ f. shown_columns (filing_shown f)) (keyed key (filings_of agent r.members)))
-filing_by_key_found agent key r old new rows shows h =
-    from_filings r old new shows rows filing_by_key_text (Text agent ∷ Text key ∷ []) _ filing_by_key_query.filter filing_by_key_query.project h (λ o. shown_columns (filing_shown o.filing)) (λ o. is_same o.agent agent && is_same o.filing.key key)
-    (λ o. ap₂ (λ x y. x && y) (text_test o.agent agent) (and-true _ ∙ text_test o.filing.key key)) filing_by_key_is (λ id x. refl) (λ id x. refl) (λ o. refl)
-    ∙ own_filings agent r.members shows.stored.ordered (λ f. is_same f.key key) (λ o. shown_columns (filing_shown o.filing))
+pub filing_by_key_found : (agent key : List ℕ) → Found ShowsIn FILING_BY_KEY.now (Text agent ∷ Text key ∷ []) (λ r. map (λ f. shown_columns (filing_shown f)) (keyed key (filings_of agent r.members)))
+filing_by_key_found agent key =
+    found_as (from_filings (asked_now filing_by_key_is) (λ o. shown_columns (filing_shown o.filing)) (λ o. is_same o.agent agent && is_same o.filing.key key) (λ o. ap₂ (λ x y. x && y) (text_test o.agent agent) (and-true _ ∙ text_test o.filing.key key)) (λ id x. (refl, refl)) (λ o. refl))
+    (λ r s shows. own_filings agent r.members shows.stored.ordered (λ f. is_same f.key key) (λ o. shown_columns (filing_shown o.filing)))
 
-pub line_by_key_found : (agent key : List ℕ) → Gives ShowsIn line_by_key_text (Text agent ∷ Text key ∷ []) (λ r. map (λ f. line_columns (filing_row agent f)) (keyed key (filings_of agent r.members)))
-line_by_key_found agent key r old new rows shows h =
-    from_filings r old new shows rows line_by_key_text (Text agent ∷ Text key ∷ []) _ line_by_key_query.filter line_by_key_query.project h (λ o. line_columns (filing_row o.agent o.filing)) (λ o. is_same o.agent agent && is_same o.filing.key key)
-    (λ o. ap₂ (λ x y. x && y) (text_test o.agent agent) (and-true _ ∙ text_test o.filing.key key)) line_by_key_is (λ id x. refl) (λ id x. refl) (λ o. refl)
-    ∙ own_filings agent r.members shows.stored.ordered (λ f. is_same f.key key) (λ o. line_columns (filing_row o.agent o.filing))
+pub line_by_key_found : (agent key : List ℕ) → Found ShowsIn LINE_BY_KEY.now (Text agent ∷ Text key ∷ []) (λ r. map (λ f. line_columns (filing_row agent f)) (keyed key (filings_of agent r.members)))
+line_by_key_found agent key =
+    found_as (from_filings (asked_now line_by_key_is) (λ o. line_columns (filing_row o.agent o.filing)) (λ o. is_same o.agent agent && is_same o.filing.key key) (λ o. ap₂ (λ x y. x && y) (text_test o.agent agent) (and-true _ ∙ text_test o.filing.key key)) (λ id x. (refl, refl)) (λ o. refl))
+    (λ r s shows. own_filings agent r.members shows.stored.ordered (λ f. is_same f.key key) (λ o. line_columns (filing_row o.agent o.filing)))
 
-pub line_by_number_found : (agent : List ℕ) (number : ℕ) → Gives ShowsIn line_by_number_text (Text agent ∷ Int (pos number) ∷ []) (λ r. map (λ f. line_columns (filing_row agent f)) (numbered number (filings_of agent r.members)))
-line_by_number_found agent number r old new rows shows h =
-    from_filings r old new shows rows line_by_number_text (Text agent ∷ Int (pos number) ∷ []) _ line_by_number_query.filter line_by_number_query.project h (λ o. line_columns (filing_row o.agent o.filing)) (λ o. is_same o.agent agent && o.filing.number == number)
-    (λ o. ap₂ (λ x y. x && y) (text_test o.agent agent) (and-true _ ∙ int_test (pos o.filing.number) (pos number) ∙ number_test o.filing.number number)) line_by_number_is (λ id x. refl) (λ id x. refl) (λ o. refl)
-    ∙ own_filings agent r.members shows.stored.ordered (λ f. f.number == number) (λ o. line_columns (filing_row o.agent o.filing))
+pub line_by_number_found : (agent : List ℕ) (number : ℕ) → Found ShowsIn LINE_BY_NUMBER.now (Text agent ∷ Int (pos number) ∷ []) (λ r. map (λ f. line_columns (filing_row agent f)) (numbered number (filings_of agent r.members)))
+line_by_number_found agent number =
+    found_as (from_filings (asked_now line_by_number_is) (λ o. line_columns (filing_row o.agent o.filing)) (λ o. is_same o.agent agent && o.filing.number == number) (λ o. ap₂ (λ x y. x && y) (text_test o.agent agent) (and-true _ ∙ int_test (pos o.filing.number) (pos number) ∙ number_test o.filing.number number)) (λ id x. (refl, refl)) (λ o. refl))
+    (λ r s shows. own_filings agent r.members shows.stored.ordered (λ f. f.number == number) (λ o. line_columns (filing_row o.agent o.filing)))
 
-pub same_bytes_found : (agent key bytes : List ℕ) → Gives ShowsIn same_bytes_text (Text agent ∷ Text key ∷ Blob bytes ∷ []) (λ r. map (λ f. truth (is_same f.bytes bytes) ∷ []) (keyed key (filings_of agent r.members)))
-same_bytes_found agent key bytes r old new rows shows h =
-    from_filings r old new shows rows same_bytes_text (Text agent ∷ Text key ∷ Blob bytes ∷ []) _ same_bytes_query.filter same_bytes_query.project h (λ o. truth (is_same o.filing.bytes bytes) ∷ []) (λ o. is_same o.agent agent && is_same o.filing.key key)
-    (λ o. ap₂ (λ x y. x && y) (text_test o.agent agent) (and-true _ ∙ text_test o.filing.key key)) same_bytes_is (λ id x. refl) (λ id x. refl) (λ o. ap (λ v. v ∷ []) (blob_test o.filing.bytes bytes))
-    ∙ own_filings agent r.members shows.stored.ordered (λ f. is_same f.key key) (λ o. truth (is_same o.filing.bytes bytes) ∷ [])
+pub same_bytes_found : (agent key bytes : List ℕ) → Found ShowsIn SAME_BYTES.now (Text agent ∷ Text key ∷ Blob bytes ∷ []) (λ r. map (λ f. truth (is_same f.bytes bytes) ∷ []) (keyed key (filings_of agent r.members)))
+same_bytes_found agent key bytes =
+    found_as (from_filings (asked_now same_bytes_is) (λ o. truth (is_same o.filing.bytes bytes) ∷ []) (λ o. is_same o.agent agent && is_same o.filing.key key) (λ o. ap₂ (λ x y. x && y) (text_test o.agent agent) (and-true _ ∙ text_test o.filing.key key)) (λ id x. (refl, refl)) (λ o. ap (λ v. v ∷ []) (blob_test o.filing.bytes bytes)))
+    (λ r s shows. own_filings agent r.members shows.stored.ordered (λ f. is_same f.key key) (λ o. truth (is_same o.filing.bytes bytes) ∷ []))
 
-pub filings_of_agent_found : (agent : List ℕ) → Gives ShowsIn filings_of_agent_text (Text agent ∷ []) (λ r. map (λ f. line_columns (filing_row agent f)) (filings_of agent r.members))
-filings_of_agent_found agent r old new rows shows h =
-    from_filings r old new shows rows filings_of_agent_text (Text agent ∷ []) _ filings_of_agent_query.filter filings_of_agent_query.project h (λ o. line_columns (filing_row o.agent o.filing)) (λ o. is_same o.agent agent)
-    (λ o. and-true _ ∙ text_test o.agent agent) filings_of_agent_is (λ id x. refl) (λ id x. refl) (λ o. refl)
-    ∙ ap (map (λ (o : Owned). line_columns (filing_row o.agent o.filing))) (own_owned agent r.members shows.stored.ordered) ∙ map-map (λ (o : Owned). line_columns (filing_row o.agent o.filing)) (owned_filing agent) (filings_of agent r.members)
+pub filings_of_agent_found : (agent : List ℕ) → Found ShowsIn FILINGS_OF_AGENT.now (Text agent ∷ []) (λ r. map (λ f. line_columns (filing_row agent f)) (filings_of agent r.members))
+filings_of_agent_found agent =
+    found_as (from_filings (asked_now filings_of_agent_is) (λ o. line_columns (filing_row o.agent o.filing)) (λ o. is_same o.agent agent) (λ o. and-true _ ∙ text_test o.agent agent) (λ id x. (refl, refl)) (λ o. refl))
+    (λ r s shows. ap (map (λ (o : Owned). line_columns (filing_row o.agent o.filing))) (own_owned agent r.members shows.stored.ordered) ∙ map-map (λ (o : Owned). line_columns (filing_row o.agent o.filing)) (owned_filing agent) (filings_of agent r.members))
 
-pub last_filing_found : (agent : List ℕ) → Gives ShowsIn last_filing_text (Text agent ∷ []) (λ r. map (λ f. line_columns (filing_row agent f)) (last (filings_of agent r.members)))
-last_filing_found agent r old new rows shows h =
-    let fs = filings_of agent r.members in
-    let out : Owned → Row = λ o. line_columns (filing_row o.agent o.filing) in
-    let own = own_owned agent r.members shows.stored.ordered in
-    let up = filings_rise IsLaterNumber (owned_filing agent) (λ f g lt. lt) 1 fs (numbered_of agent r.members shows.stored.numbered) in
-    picked_last 5 refl last_filing_query.filter (Text agent ∷ []) last_filing_query.project last_filing_query.order (λ id x. refl) whole out (λ o. is_same o.agent agent) (λ o. and-true _ ∙ text_test o.agent agent) (owned r.members) old.now.trees
-    (filing_rows r.members) rows (filing_rows_are r.members) (has_now r old new shows h.0).filings (λ id x. refl) (λ o. refl) (answers r old new shows h.0 last_filing_text (Text agent ∷ []) last_filing_query _ last_filing_is.asks rows h.1)
-    IsLaterNumber (λ a b lt. rw (lower_id a.filing.number b.filing.number lt) refl) (subst (IsAscending IsLaterNumber) (sym own) up)
-    ∙ ap (λ l. map out (take 1 (reverse l))) own ∙ ap (map out) (last_of_map (owned_filing agent) fs) ∙ map-map out (owned_filing agent) (last fs)
+pub last_filing_found : (agent : List ℕ) → Found ShowsIn LAST_FILING.now (Text agent ∷ []) (λ r. map (λ f. line_columns (filing_row agent f)) (last (filings_of agent r.members)))
+last_filing_found agent = record {
+  query = is_query last_filing_is;
+  gives = λ r old new rows shows h.
+      let fs = filings_of agent r.members in
+      let out : Owned → Row = λ o. line_columns (filing_row o.agent o.filing) in
+      let own = own_owned agent r.members shows.stored.ordered in
+      let up = filings_rise IsLaterNumber (owned_filing agent) (λ f g lt. lt) 1 fs (numbered_of agent r.members shows.stored.numbered) in
+      picked_last 5 refl last_filing_query.filter (Text agent ∷ []) last_filing_query.project last_filing_query.order (λ id x. refl) whole out (λ o. is_same o.agent agent) (λ o. and-true _ ∙ text_test o.agent agent) (owned r.members) old.now.trees
+      (filing_rows r.members) rows (filing_rows_are r.members) (has_now r old new shows h.0).filings (λ id x. refl) (λ o. refl) (answers r old new shows h.0 LAST_FILING.now (Text agent ∷ []) last_filing_query last_filing_is.asks rows h.1)
+      IsLaterNumber (λ a b lt. rw (lower_id a.filing.number b.filing.number lt) refl) (subst (IsAscending IsLaterNumber) (sym own) up)
+      ∙ ap (λ l. map out (take 1 (reverse l))) own ∙ ap (map out) (last_of_map (owned_filing agent) fs) ∙ map-map out (owned_filing agent) (last fs);
+}
 
-pub last_of_series_found : (agent declaration rec : List ℕ) → Gives ShowsIn last_of_series_text (Text agent ∷ Text declaration ∷ Text rec ∷ []) (λ r. map (λ p. statement_columns (bare p)) (last (in_series declaration rec (placed_of agent r))))
-last_of_series_found agent declaration rec r old new rows shows h =
-    let out : Placed → Row = λ p. statement_columns (bare p) in
-    let q : Placed → Bool = λ p. is_same p.statement.declaration declaration && is_same p.statement.rec rec in
-    let own = own_statements agent r.members shows.stored.ordered q in
-    let Up : Placed → Placed → Type 0 = λ a b. IsLaterPlace a.at b.at in
-    let up = ascending-filter Up q (placed_of agent r) (statements_rise IsLaterPlace later_number later_place agent 1 (filings_of agent r.members) (numbered_of agent r.members shows.stored.numbered)) in
-    picked_last 8 refl last_of_series_query.filter (Text agent ∷ Text declaration ∷ Text rec ∷ []) last_of_series_query.project last_of_series_query.order (λ id x. refl) out out (λ p. is_same p.at.agent agent && q p)
-    (λ p. ap₂ (λ x y. x && y) (text_test p.at.agent agent) (ap₂ (λ x y. x && y) (text_test p.statement.declaration declaration) (and-true _ ∙ text_test p.statement.rec rec))) (placed r.members) old.now.trees
-    (map out (placed r.members)) rows refl (has_now r old new shows h.0).statements (λ id x. refl) (λ p. statement_shown (bare p))
-    (answers r old new shows h.0 last_of_series_text (Text agent ∷ Text declaration ∷ Text rec ∷ []) last_of_series_query _ last_of_series_is.asks rows h.1) Up (λ a b lt. lt) (subst (IsAscending Up) (sym own) up)
-    ∙ ap (λ l. map out (last l)) own
+pub last_of_series_found : (agent declaration rec : List ℕ) → Found ShowsIn LAST_OF_SERIES.now (Text agent ∷ Text declaration ∷ Text rec ∷ []) (λ r. map (λ p. statement_columns (bare p)) (last (in_series declaration rec (placed_of agent r))))
+last_of_series_found agent declaration rec = record {
+  query = is_query last_of_series_is;
+  gives = λ r old new rows shows h.
+      let out : Placed → Row = λ p. statement_columns (bare p) in
+      let q : Placed → Bool = λ p. is_same p.statement.declaration declaration && is_same p.statement.rec rec in
+      let own = own_statements agent r.members shows.stored.ordered q in
+      let Up : Placed → Placed → Type 0 = λ a b. IsLaterPlace a.at b.at in
+      let up = ascending-filter Up q (placed_of agent r) (statements_rise IsLaterPlace later_number later_place agent 1 (filings_of agent r.members) (numbered_of agent r.members shows.stored.numbered)) in
+      picked_last 8 refl last_of_series_query.filter (Text agent ∷ Text declaration ∷ Text rec ∷ []) last_of_series_query.project last_of_series_query.order (λ id x. refl) out out (λ p. is_same p.at.agent agent && q p)
+      (λ p. ap₂ (λ x y. x && y) (text_test p.at.agent agent) (ap₂ (λ x y. x && y) (text_test p.statement.declaration declaration) (and-true _ ∙ text_test p.statement.rec rec))) (placed r.members) old.now.trees
+      (map out (placed r.members)) rows refl (has_now r old new shows h.0).statements (λ id x. refl) (λ p. statement_shown (bare p))
+      (answers r old new shows h.0 LAST_OF_SERIES.now (Text agent ∷ Text declaration ∷ Text rec ∷ []) last_of_series_query last_of_series_is.asks rows h.1) Up (λ a b lt. lt) (subst (IsAscending Up) (sym own) up)
+      ∙ ap (λ l. map out (last l)) own;
+}
 
-pub statement_by_id_found : (agent id : List ℕ) → Gives ShowsIn statement_by_id_text (Text agent ∷ Text id ∷ []) (λ r. map place_columns (identified id (placed_of agent r)))
-statement_by_id_found agent id r old new rows shows h =
-    from_statements r old new shows rows statement_by_id_text (Text agent ∷ Text id ∷ []) _ statement_by_id_query.filter statement_by_id_query.project h place_columns (λ p. is_same p.at.agent agent && is_same p.statement.id id)
-    (λ p. ap₂ (λ x y. x && y) (text_test p.at.agent agent) (and-true _ ∙ text_test p.statement.id id)) statement_by_id_is (λ id x. refl) (λ id x. refl) (λ p. refl)
-    ∙ ap (map place_columns) (own_statements agent r.members shows.stored.ordered (λ p. is_same p.statement.id id))
+pub statement_by_id_found : (agent id : List ℕ) → Found ShowsIn STATEMENT_BY_ID.now (Text agent ∷ Text id ∷ []) (λ r. map place_columns (identified id (placed_of agent r)))
+statement_by_id_found agent id =
+    found_as (from_statements (asked_now statement_by_id_is) place_columns (λ p. is_same p.at.agent agent && is_same p.statement.id id) (λ p. ap₂ (λ x y. x && y) (text_test p.at.agent agent) (and-true _ ∙ text_test p.statement.id id)) (λ id x. (refl, refl)) (λ p. refl))
+    (λ r s shows. ap (map place_columns) (own_statements agent r.members shows.stored.ordered (λ p. is_same p.statement.id id)))
 
-pub statements_of_declaration_found : (agent declaration : List ℕ) → Gives ShowsIn statements_of_declaration_text (Text agent ∷ Text declaration ∷ []) (λ r. map (λ p. statement_columns (bare p)) (in_declaration declaration (placed_of agent r)))
-statements_of_declaration_found agent declaration r old new rows shows h =
-    from_statements r old new shows rows statements_of_declaration_text (Text agent ∷ Text declaration ∷ []) _ statements_of_declaration_query.filter statements_of_declaration_query.project h (λ p. statement_columns (bare p))
-    (λ p. is_same p.at.agent agent && is_same p.statement.declaration declaration)
-    (λ p. ap₂ (λ x y. x && y) (text_test p.at.agent agent) (and-true _ ∙ text_test p.statement.declaration declaration)) statements_of_declaration_is (λ id x. refl) (λ id x. refl) (λ p. statement_shown (bare p))
-    ∙ ap (map (λ p. statement_columns (bare p))) (own_statements agent r.members shows.stored.ordered (λ p. is_same p.statement.declaration declaration))
+pub statements_of_declaration_found : (agent declaration : List ℕ) → Found ShowsIn STATEMENTS_OF_DECLARATION.now (Text agent ∷ Text declaration ∷ []) (λ r. map (λ p. statement_columns (bare p)) (in_declaration declaration (placed_of agent r)))
+statements_of_declaration_found agent declaration =
+    found_as (from_statements (asked_now statements_of_declaration_is) (λ p. statement_columns (bare p)) (λ p. is_same p.at.agent agent && is_same p.statement.declaration declaration) (λ p. ap₂ (λ x y. x && y) (text_test p.at.agent agent) (and-true _ ∙ text_test p.statement.declaration declaration)) (λ id x. (refl, refl)) (λ p. statement_shown (bare p)))
+    (λ r s shows. ap (map (λ p. statement_columns (bare p))) (own_statements agent r.members shows.stored.ordered (λ p. is_same p.statement.declaration declaration)))
 
-pub statements_of_series_found : (agent declaration rec : List ℕ) → Gives ShowsIn statements_of_series_text (Text agent ∷ Text declaration ∷ Text rec ∷ []) (λ r. map (λ p. statement_columns (bare p)) (in_series declaration rec (placed_of agent r)))
-statements_of_series_found agent declaration rec r old new rows shows h =
-    from_statements r old new shows rows statements_of_series_text (Text agent ∷ Text declaration ∷ Text rec ∷ []) _ statements_of_series_query.filter statements_of_series_query.project h (λ p. statement_columns (bare p))
-    (λ p. is_same p.at.agent agent && (is_same p.statement.declaration declaration && is_same p.statement.rec rec))
-    (λ p. ap₂ (λ x y. x && y) (text_test p.at.agent agent) (ap₂ (λ x y. x && y) (text_test p.statement.declaration declaration) (and-true _ ∙ text_test p.statement.rec rec))) statements_of_series_is (λ id x. refl) (λ id x. refl) (λ p. statement_shown (bare p))
-    ∙ ap (map (λ p. statement_columns (bare p))) (own_statements agent r.members shows.stored.ordered (λ p. is_same p.statement.declaration declaration && is_same p.statement.rec rec))
+pub statements_of_series_found : (agent declaration rec : List ℕ) → Found ShowsIn STATEMENTS_OF_SERIES.now (Text agent ∷ Text declaration ∷ Text rec ∷ []) (λ r. map (λ p. statement_columns (bare p)) (in_series declaration rec (placed_of agent r)))
+statements_of_series_found agent declaration rec =
+    found_as (from_statements (asked_now statements_of_series_is) (λ p. statement_columns (bare p)) (λ p. is_same p.at.agent agent && (is_same p.statement.declaration declaration && is_same p.statement.rec rec)) (λ p. ap₂ (λ x y. x && y) (text_test p.at.agent agent) (ap₂ (λ x y. x && y) (text_test p.statement.declaration declaration) (and-true _ ∙ text_test p.statement.rec rec))) (λ id x. (refl, refl)) (λ p. statement_shown (bare p)))
+    (λ r s shows. ap (map (λ p. statement_columns (bare p))) (own_statements agent r.members shows.stored.ordered (λ p. is_same p.statement.declaration declaration && is_same p.statement.rec rec)))
 
-pub statements_of_record_found : (agent rec : List ℕ) → Gives ShowsIn statements_of_record_text (Text agent ∷ Text rec ∷ []) (λ r. map (λ p. statement_columns (bare p)) (in_record rec (placed_of agent r)))
-statements_of_record_found agent rec r old new rows shows h =
-    from_statements r old new shows rows statements_of_record_text (Text agent ∷ Text rec ∷ []) _ statements_of_record_query.filter statements_of_record_query.project h (λ p. statement_columns (bare p)) (λ p. is_same p.at.agent agent && is_same p.statement.rec rec)
-    (λ p. ap₂ (λ x y. x && y) (text_test p.at.agent agent) (and-true _ ∙ text_test p.statement.rec rec)) statements_of_record_is (λ id x. refl) (λ id x. refl) (λ p. statement_shown (bare p))
-    ∙ ap (map (λ p. statement_columns (bare p))) (own_statements agent r.members shows.stored.ordered (λ p. is_same p.statement.rec rec))
+pub statements_of_record_found : (agent rec : List ℕ) → Found ShowsIn STATEMENTS_OF_RECORD.now (Text agent ∷ Text rec ∷ []) (λ r. map (λ p. statement_columns (bare p)) (in_record rec (placed_of agent r)))
+statements_of_record_found agent rec =
+    found_as (from_statements (asked_now statements_of_record_is) (λ p. statement_columns (bare p)) (λ p. is_same p.at.agent agent && is_same p.statement.rec rec) (λ p. ap₂ (λ x y. x && y) (text_test p.at.agent agent) (and-true _ ∙ text_test p.statement.rec rec)) (λ id x. (refl, refl)) (λ p. statement_shown (bare p)))
+    (λ r s shows. ap (map (λ p. statement_columns (bare p))) (own_statements agent r.members shows.stored.ordered (λ p. is_same p.statement.rec rec)))
 
-pub statements_of_subject_found : (agent declaration rec : List ℕ) → Gives ShowsIn statements_of_subject_text (Text agent ∷ Text declaration ∷ Text rec ∷ []) (λ r. map (λ p. statement_columns (bare p)) (with_subject declaration rec (placed_of agent r)))
-statements_of_subject_found agent declaration rec r old new rows shows h =
-    from_statements r old new shows rows statements_of_subject_text (Text agent ∷ Text declaration ∷ Text rec ∷ []) _ statements_of_subject_query.filter statements_of_subject_query.project h (λ p. statement_columns (bare p))
-    (λ p. is_same p.at.agent agent && (is_same p.statement.declaration declaration && names_subject rec p.statement.details))
-    (subject_test agent declaration rec) statements_of_subject_is (λ id x. refl) (λ id x. refl) (λ p. statement_shown (bare p))
-    ∙ ap (map (λ p. statement_columns (bare p))) (own_statements agent r.members shows.stored.ordered (λ p. is_same p.statement.declaration declaration && names_subject rec p.statement.details))
+pub statements_of_subject_found : (agent declaration rec : List ℕ) → Found ShowsIn STATEMENTS_OF_SUBJECT.now (Text agent ∷ Text declaration ∷ Text rec ∷ []) (λ r. map (λ p. statement_columns (bare p)) (with_subject declaration rec (placed_of agent r)))
+statements_of_subject_found agent declaration rec =
+    found_as (from_statements (asked_now statements_of_subject_is) (λ p. statement_columns (bare p)) (λ p. is_same p.at.agent agent && (is_same p.statement.declaration declaration && names_subject rec p.statement.details)) (subject_test agent declaration rec) (λ id x. (refl, refl)) (λ p. statement_shown (bare p)))
+    (λ r s shows. ap (map (λ p. statement_columns (bare p))) (own_statements agent r.members shows.stored.ordered (λ p. is_same p.statement.declaration declaration && names_subject rec p.statement.details)))
 
-pub identifiers_by_id_found : (scheme id : List ℕ) → Gives ShowsIn identifiers_by_id_text (Text scheme ∷ Text id ∷ []) (λ r. map identifier_columns (identified_by scheme id r.members))
-identifiers_by_id_found scheme id r old new rows shows h =
-    from_identifiers r old new shows rows identifiers_by_id_text (Text scheme ∷ Text id ∷ []) _ identifiers_by_id_query.filter identifiers_by_id_query.project h (λ i. is_same i.identifier.scheme scheme && is_same i.identifier.id id)
-    (λ i. ap₂ (λ x y. x && y) (text_test i.identifier.scheme scheme) (and-true _ ∙ text_test i.identifier.id id)) identifiers_by_id_is (λ id x. refl) (λ id x. refl) (λ i. refl)
+pub identifiers_by_id_found : (scheme id : List ℕ) → Found ShowsIn IDENTIFIERS_BY_ID.now (Text scheme ∷ Text id ∷ []) (λ r. map identifier_columns (identified_by scheme id r.members))
+identifiers_by_id_found scheme id =
+    from_identifiers (asked_now identifiers_by_id_is) (λ i. is_same i.identifier.scheme scheme && is_same i.identifier.id id) (λ i. ap₂ (λ x y. x && y) (text_test i.identifier.scheme scheme) (and-true _ ∙ text_test i.identifier.id id)) (λ id x. (refl, refl)) (λ i. refl)
 
-pub statement_by_place_found : (at : At) → Gives ShowsIn statement_by_place_text (place_params at) (λ r. map (λ p. statement_columns (bare p)) (standing_at at r.members))
-statement_by_place_found at r old new rows shows h =
-    from_statements r old new shows rows statement_by_place_text (place_params at) _ statement_by_place_query.filter statement_by_place_query.project h (λ p. statement_columns (bare p)) (λ p. same_place p.at at)
-    (λ p. ap₂ (λ x y. x && y) (text_test p.at.agent at.agent) (ap₂ (λ x y. x && y) (int_test (pos p.at.filing) (pos at.filing) ∙ number_test p.at.filing at.filing) (and-true _ ∙ int_test (pos p.at.place) (pos at.place) ∙ number_test p.at.place at.place)))
-    statement_by_place_is (λ id x. refl) (λ id x. refl) (λ p. statement_shown (bare p))
+pub statement_by_place_found : (at : At) → Found ShowsIn STATEMENT_BY_PLACE.now (place_params at) (λ r. map (λ p. statement_columns (bare p)) (standing_at at r.members))
+statement_by_place_found at =
+    from_statements (asked_now statement_by_place_is) (λ p. statement_columns (bare p)) (λ p. same_place p.at at) (λ p. place_test p.at at) (λ id x. (refl, refl)) (λ p. statement_shown (bare p))

@@ -9,6 +9,7 @@ use Rattle.sqlite.specs.Collation.TheVariants.{Binary}
 use Rattle.sqlite_value.specs.declared.keys.Key.{Key}
 use Rattle.sqlite_sql.specs.declared.ops.BinaryOp.TheVariants.{Compare}
 use Rattle.sqlite_sql.specs.declared.ops.CompareOp.TheVariants.{Eq}
+use Rattle.sqlite.specs.declared.types.Value.{Value}
 use Rattle.sqlite.specs.declared.types.Value.TheVariants.{Int, Text}
 use Rattle.sqlite.specs.Order.{Row, value_cmp}
 use Rattle.sqlite.specs.Tree.{Trees}
@@ -22,8 +23,12 @@ truth_back : (b : Bool) → is_true (from_truth (Some b)) ≡ b
 truth_back true = refl
 truth_back false = refl
 
+-- whether `=` holds of two values
+abbrev pub are_equal : Value → Value → Bool
+are_equal a b = is_true (binary (Compare Eq Binary) a b)
+
 -- an equality of texts
-pub text_test : (a b : List ℕ) → is_true (binary (Compare Eq Binary) (Text a) (Text b)) ≡ bytes_eq a b
+pub text_test : (a b : List ℕ) → are_equal (Text a) (Text b) ≡ bytes_eq a b
 unfolding binary
 text_test a b = truth_back (is_eq (value_cmp (Text a) (Text b))) ∙ ap is_eq (value_cmp-Text a b) ∙ is_eq-slice_cmp a b
 
@@ -78,6 +83,6 @@ module _ (t : ℕ) (tests : List Term) (params : Row) where
         (a.ordered, subst (λ k. IsPermutation k a.ordered) kept a.same, a.shown ∙ ap (λ o. take 1 (drop (unwrap_or o 0) (map (λ (o : Output). o.1) a.ordered))) counted)
 
 -- an equality of integers
-pub int_test : (m n : ℤ) → is_true (binary (Compare Eq Binary) (Int m) (Int n)) ≡ is_eq (int_cmp m n)
+pub int_test : (m n : ℤ) → are_equal (Int m) (Int n) ≡ is_eq (int_cmp m n)
 unfolding binary
 int_test m n = truth_back (is_eq (value_cmp (Int m) (Int n))) ∙ ap is_eq (value_cmp-Int m n)

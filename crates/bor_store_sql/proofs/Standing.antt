@@ -4,7 +4,7 @@ use Rattle.std.specs.List.{AllByRecursion, position_from}
 use Rattle.std.proofs.lemmas.Grind.{fold-append}
 use Rattle.std.proofs.lemmas.List.{map-append}
 use Rattle.sqlite.specs.Change.{next_tree}
-use Rattle.sqlite.specs.Effect.{Database}
+use Rattle.sqlite.specs.Effect.{Database, IsDatabase}
 use Rattle.sqlite.specs.Table.{Table}
 use Rattle.sqlite.specs.Tree.{Trees}
 use Rattle.sqlite_catalog.specs.Change.{past_views}
@@ -16,10 +16,25 @@ use Rattle.sqlite_schema.specs.Names.{same_name}
 use Rattle.sqlite_schema.specs.declared.schema.Index.{Index}
 use Rattle.sqlite_keyed.proofs.ListLemmas.{all-append}
 use Rattle.bor_register.specs.Register.{Register}
-use Rattle.bor_store_sql.specs.Beside.{Adds, AddsIndexes, HasIndex, HasMore, HasIndexes, HasTable, HasTables, HasTheirTables, IsIndexMade, IsTableMade, IsIndexOver, MakesOnly, SetsUp, SetsUpIn, Spares, details, four_indexes, lists, tables_of}
+use Rattle.bor_store_sql.specs.Beside.{Adds, HasIndex, HasIndexes, HasMore, HasTable, HasTables, IsIndexMade, IsIndexOver, IsTableMade, MakesOnly, SetsUp, SetsUpIn, Spares, SparesUnread, details, four_indexes, lists, tables_of}
 use Rattle.bor_store_sql.specs.Kept.{Keeps}
 use Rattle.bor_store_sql.proofs.Unread.{unread_all}
 use Rattle.sqlite.specs.Order.{Row}
+
+-- ---- indexes beside tables that are there
+
+-- there is the table of each of these indexes
+abbrev pub HasTheirTables : List (Table × Index) → Database → Type 0
+HasTheirTables indexes db =
+    AllByRecursion (λ i. (tree : ℕ) × (rows : List Row) × HasTable db i.0 tree rows) indexes
+
+-- these indexes are added, where their tables are there
+pub record AddsIndexes (over : List (Table × Index)) (old new : Database) : Type 0 where
+  pub sound : IsDatabase new
+  pub spares : Spares old new
+  pub unread : IsDatabase old → SparesUnread old new
+  pub indexes : HasTheirTables over old → HasIndexes over new.schema
+  pub only : HasTheirTables over old → MakesOnly [] over old.schema new.schema
 
 -- ---- lists that grow at their end
 

@@ -10,9 +10,9 @@ use Rattle.bor_register.specs.Limits.{filings_limit}
 use Rattle.bor_register.specs.Live.{accepted}
 use Rattle.bor_register.specs.declared.filing.AcceptedFiling.{AcceptedFiling}
 use Rattle.bor_register.specs.declared.member.Member.{Member}
-use Rattle.bor_register.specs.Register.{Register, IsOrdered, AllAbove, is_enrolled, with_filings, filings_of, new_member, with_member}
+use Rattle.bor_register.specs.Register.{Register, is_enrolled, with_filings, filings_of, new_member, with_member}
 use Rattle.bor_register.proofs.Forms.{formed-filings_of, formed-accepted, formed-added, formed-with_filings, formed-new_member, formed-with_member}
-use Rattle.bor_register.proofs.Names.{ordered-with_member}
+use Rattle.bor_register.proofs.Names.{ordered-with_filings, ordered-with_member}
 use Rattle.bor_store_sql.specs.Rows.Stored.{AreNumbered, AllNumbered, AreCounted, IsStored}
 use Rattle.bor_store_sql.specs.Changing.{added, enrolled}
 
@@ -29,20 +29,6 @@ module _ (agent : List ℕ) where
   numbered_of (m ∷ ms) all = elim (is_same m.name agent) as (λ b. AreNumbered 1 (if b then m.filings else filings_of agent ms)) [
     | true ↦ all.0
     | false ↦ numbered_of ms all.1
-  ]
-
-  above_with : (low : List ℕ) (new : List AcceptedFiling) (ms : List Member) → AllAbove low ms → AllAbove low (with_filings agent new ms)
-  above_with low new [] up = tt
-  above_with low new (m ∷ ms) up = elim (is_same m.name agent) as (λ b. AllAbove low (if b then record m { filings = new } ∷ ms else m ∷ with_filings agent new ms)) [
-    | true ↦ up
-    | false ↦ (up.0, above_with low new ms up.1)
-  ]
-
-  pub ordered_with : (new : List AcceptedFiling) (ms : List Member) → IsOrdered ms → IsOrdered (with_filings agent new ms)
-  ordered_with new [] up = tt
-  ordered_with new (m ∷ ms) up = elim (is_same m.name agent) as (λ b. IsOrdered (if b then record m { filings = new } ∷ ms else m ∷ with_filings agent new ms)) [
-    | true ↦ up
-    | false ↦ (above_with m.name new ms up.0, ordered_with new ms up.1)
   ]
 
   abbrev pub AllCounted : List AcceptedFiling → Type 0
@@ -75,7 +61,7 @@ added_stored agent key due bytes ss r s room is_key is_due are_bytes formed coun
     let f = accepted own key due bytes ss in
     let owned = formed-filings_of agent r.members s.formed.members in
     record {
-      ordered = ordered_with agent (own ++ f ∷ []) r.members s.ordered;
+      ordered = ordered-with_filings agent (own ++ f ∷ []) r.members s.ordered;
       numbered = numbered_with agent (own ++ f ∷ []) r.members (numbered_push 1 own f (numbered_of agent r.members s.numbered) (omega arith)) s.numbered;
       formed = record {
         day = s.formed.day;

@@ -1,5 +1,6 @@
 -- The effects of a DELETE and an UPDATE.
-use Rattle.std.proofs.Common.{◌≡◌, ◌≢◌, ℕ, ℤ, List, [], ◌∷◌, map, drop, slice_get, None, Some, Ok, refl, sym, ap, subst, ◌∙◌}
+use Rattle.std.proofs.Common.{◌≡◌, ◌≢◌, ◌==◌, ℕ, ℤ, Bool, true, false, List, [], ◌∷◌, length, map, drop, slice_get, None, Some, Ok, refl, sym, ap, subst, ◌∙◌}
+use Rattle.std.specs.List.{flat_map, filter_map}
 use Rattle.sqlite.specs.Order.{Row}
 use Rattle.sqlite_rules.specs.Edit.{without_all, put_all, numbered}
 use Rattle.sqlite_trees.specs.Tree.{put_row}
@@ -17,9 +18,11 @@ use Rattle.sqlite.specs.Effect.{Database, Answers, IsDatabase}
 use Rattle.sqlite.specs.Listing.{understood}
 use Rattle.sqlite.specs.State.{State, mode_of, Executes}
 use Rattle.sqlite_schema.specs.declared.program.Program.{Program}
-use Rattle.sqlite_rules.specs.Action.{works}
+use Rattle.sqlite_rules.specs.Action.{Work, works, work_by, pairs, deed_for}
+use Rattle.sqlite_schema.specs.Rules.{parent_key}
 use Rattle.sqlite_schema.specs.declared.schema.Keys.TheVariants.{Enforced}
 use Rattle.sqlite.proofs.Callers.{IsPlain, command_of, statement_of, runs_as, one_step}
+use Rattle.bor_store_sql.specs.Texts.Tables.{keep_schema}
 use Rattle.bor_store_sql.proofs.Inserts.{went, same_value}
 
 pub record Removed (schema : Schema) (table : Table) (ids : List ℤ) (old new : Database) : Type 0 where
@@ -125,3 +128,17 @@ module _ (sql : List ℕ) (params : Row) (schema : Schema) (at : ℕ) (q : Progr
           others = λ t other free. ap (λ (all : Trees). all t) trees ∙ step.2.others t other free;
         },
       )
+
+-- ---- keys
+
+-- what the keys do where rows of the table at this tree change
+abbrev pub works_at : ℕ → List Row → List Row → Bool → List Work
+works_at tree olds news none = flat_map (λ child. filter_map (λ ref. work_by 0 tree (pairs olds news) child ref (deed_for Enforced none ref) (parent_key keep_schema.tables ref)) child.references) keep_schema.tables
+
+-- no key acts there: `refl` finds both facts of a tree that is written out
+pub no_key_acts : (tree : ℕ) → ((olds news : List Row) → works_at tree olds news true ≡ []) → ((olds news : List Row) → works_at tree olds news false ≡ []) → (olds news : List Row) → works keep_schema Enforced 0 tree olds news ≡ []
+no_key_acts tree some none olds news = go (length news == 0)
+  where
+    go : (b : Bool) → works_at tree olds news b ≡ []
+    go true = some olds news
+    go false = none olds news

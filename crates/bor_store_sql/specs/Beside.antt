@@ -183,19 +183,6 @@ pub record Adds (made : List (Table × List Row)) (over : List (Table × Index))
   pub indexes : HasIndexes over new.schema
   pub only : MakesOnly (tables_of made) over old.schema new.schema
 
--- there is the table of each of these indexes
-abbrev pub HasTheirTables : List (Table × Index) → Database → Type 0
-HasTheirTables indexes db =
-    AllByRecursion (λ i. (tree : ℕ) × (rows : List Row) × HasTable db i.0 tree rows) indexes
-
--- these indexes are added, where their tables are there
-pub record AddsIndexes (over : List (Table × Index)) (old new : Database) : Type 0 where
-  pub sound : IsDatabase new
-  pub spares : Spares old new
-  pub unread : IsDatabase old → SparesUnread old new
-  pub indexes : HasTheirTables over old → HasIndexes over new.schema
-  pub only : HasTheirTables over old → MakesOnly [] over old.schema new.schema
-
 -- the table without rows
 abbrev pub blank : Table → Table × List Row
 blank table = (table, [])

@@ -21,12 +21,19 @@ abbrev pub LeavesNoMore : State → State → Type 0
 LeavesNoMore old new =
     HasCleanDisk new → (trees : Trees) → new.may_leave trees → old.may_leave trees
 
+-- On a disk that has returned what was written, statements of a transaction that was under way went
+-- well only where the connection was open.
+abbrev pub RanOpenIn : State → State → Result (Unit {0}) Error → Type 0
+RanOpenIn old new result =
+    HasCleanDisk new → IsTrue old.in_transaction → OnOk result (IsTrue old.is_open)
+
 -- The text was run in the transaction that was under way, with these parameters.
 pub record Ran (text : List ℕ) (params : Row) (old new : State)
     (result : Result (Unit {0}) Error) : Type 0 where
   pub clean : HasCleanDisk new → HasCleanDisk old
   pub stops : LeavesNoMore old new
   pub inside : HasCleanDisk new → IsTrue old.in_transaction → RunsInside text params old new result
+  pub opened : RanOpenIn old new result
 
 -- the texts were run one after the other, until one failed
 abbrev pub RanInTurn : {S : Type 0} → Ghosts S → List (List ℕ) → Row → Held S → Held S
@@ -56,12 +63,6 @@ pub record MovesTo (Makes : Database → Database → Type 0) (old new : State)
   pub clean : HasCleanDisk new → HasCleanDisk old
   pub stops : LeavesNoMore old new
   pub inside : HasCleanDisk new → IsTrue old.in_transaction → Moved Makes old new result
-
--- On a disk that has returned what was written, statements of a transaction that was under way went
--- well only where the connection was open.
-abbrev pub RanOpenIn : State → State → Result (Unit {0}) Error → Type 0
-RanOpenIn old new result =
-    HasCleanDisk new → IsTrue old.in_transaction → OnOk result (IsTrue old.is_open)
 
 -- ---- the same of a connection
 

@@ -13,8 +13,7 @@ pub(crate) fn query<S: Alter>(
     sql: &str,
     params: &[ValueRef<'_>],
 ) -> Result<Vec<Row>, Error>
-    requires { IsQuery sql.now }
-    ensures { AnswersQuery sql.now (bound params.now) (state S.Store conn.old)
+    ensures { IsQuery sql.now → AnswersQuery sql.now (bound params.now) (state S.Store conn.old)
         (state S.Store conn.new) result }
 {
     if !conn.is_autocommit() {

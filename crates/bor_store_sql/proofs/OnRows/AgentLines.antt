@@ -11,6 +11,7 @@ use Rattle.bor_store_sql.specs.declared.rows.typed.FilingRow.{FilingRow}
 use Rattle.bor_store_sql.specs.Rows.Placed.{agent_row, filing_row, filing_lines}
 use Rattle.bor_store_sql.specs.Rows.Seen.{is_line_published}
 use Rattle.bor_store_sql.proofs.OnRows.Rebuilt.{Splits, filings_at, above_filings}
+use Rattle.bor_store_sql.proofs.OnRows.Lists.{no_values}
 
 -- as many rows are published as filings
 count_is : (day : ℤ) (agent : List ℕ) (fs : List AcceptedFiling) → length (filter (is_line_published day) (map (filing_row agent) fs)) ≡ published_count day fs
@@ -54,8 +55,4 @@ module _ (day : ℤ) (all : List Member) (out : List AgentLine) where
           }
 
   pub all_lines : (filings : List FilingRow) → LinesLeft day all out [] filings → out ≡ map (agent_line day) all
-  all_lines filings l = go l.left l.whole l.rows_are
-    where
-      go : (left : List Member) → out ++ map (agent_line day) left ≡ map (agent_line day) all → [] ≡ map agent_row left → out ≡ map (agent_line day) all
-      go [] whole e = sym (append-nil out) ∙ whole
-      go (m ∷ left) whole e = absurd cc
+  all_lines filings l = sym (append-nil out) ∙ ap (λ ms. out ++ map (agent_line day) ms) (sym (no_values agent_row l.left (sym l.rows_are))) ∙ l.whole

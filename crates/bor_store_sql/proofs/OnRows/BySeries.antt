@@ -16,7 +16,8 @@ use Rattle.bor_store_sql.specs.declared.rows.typed.Placed.{Placed}
 use Rattle.bor_store_sql.specs.Rows.Placed.{bare, part_of, placed_from, placed_by}
 use Rattle.bor_store_sql.specs.Rows.Seen.{type_of_part, known_at}
 use Rattle.bor_store_sql.specs.Rows.Stored.{AreNumbered}
-use Rattle.bor_store_sql.proofs.OnRows.Numbers.{same_number, other_number, before_number}
+use Rattle.bor_store_sql.proofs.OnRows.Numbers.{same_number, before_number}
+use Rattle.bor_store_sql.proofs.OnRows.Each.{none_numbered}
 
 -- a live statement with where it stands
 record Standing : Type 0 where
@@ -71,10 +72,6 @@ known_is t = rw (kind_is t.at.statement.details) refl
 
 abbrev Owns : List AcceptedFiling → Standing → Type 0
 Owns fs t = filter (λ (f : AcceptedFiling). f.number == t.at.at.filing) fs ≡ t.filing ∷ []
-
-none_numbered : (number n : ℕ) (fs : List AcceptedFiling) → number < n → AreNumbered n fs → filter (λ (f : AcceptedFiling). f.number == number) fs ≡ []
-none_numbered number n [] low numbered = refl
-none_numbered number n (f ∷ fs) low numbered = rw (other_number number f.number (let is = numbered.0 in omega (arith, is))) (none_numbered number (n + 1) fs (omega arith) numbered.1)
 
 own_from : (agent : List ℕ) (f : AcceptedFiling) (fs : List AcceptedFiling) (n place : ℕ) → f.number < n → AreNumbered n fs → (ss : List Statement) → AllByRecursion (Owns (f ∷ fs)) (standing_from agent f place ss)
 own_from agent f fs n place low numbered [] = tt

@@ -1,5 +1,5 @@
 -- Each value from the columns that it has: no two values have the same.
-use Rattle.std.proofs.Common.{◌≡◌, ℕ, zero, suc, ℤ, pos, negsuc, Bool, true, false, List, [], ◌∷◌, map, Option, Some, None, option_map, refl, sym, ap, ap₂, ◌∙◌}
+use Rattle.std.proofs.Common.{◌≡◌, ℕ, zero, suc, ℤ, pos, negsuc, Bool, true, false, List, [], map, Option, Some, None, option_map, refl, sym, ap, ap₂, ◌∙◌}
 use Rattle.std.specs.Prelude.{unwrap_or}
 use Rattle.sqlite.specs.declared.types.Value.{Value}
 use Rattle.sqlite.specs.declared.types.Value.TheVariants.{Int, Text, Blob}
@@ -26,12 +26,9 @@ use Rattle.bor_store_sql.specs.declared.rows.typed.IdentifierRow.{IdentifierRow}
 use Rattle.bods_read.specs.Words.{entity_kind_of, person_kind_of, interest_kind_of, directness_named}
 use Rattle.bods_read.specs.WordLaws.{type_back, status_back, entity_back, person_back, interest_back, directness_back}
 use Rattle.bor_store_sql.specs.Rows.Encoding.{truth, or_null, day_or_null, statement_columns, interest_line_columns, period_columns, identifier_columns, filing_columns}
+use Rattle.sqlite_keyed.proofs.ListLemmas.{map_back}
 
 -- ---- lists of rows
-
-pub map_back : {X Y : Type 0} (f : X → Y) (g : Y → X) → ((x : X) → g (f x) ≡ x) → (xs : List X) → map g (map f xs) ≡ xs
-map_back f g back [] = refl
-map_back {X} f g back (x ∷ xs) = ap (λ (y : X). y ∷ map g (map f xs)) (back x) ∙ ap (λ l. x ∷ l) (map_back f g back xs)
 
 -- the same rows are those of the same values
 pub same_values : {X Y : Type 0} (f : X → Y) (g : Y → X) → ((x : X) → g (f x) ≡ x) → (xs ys : List X) → map f xs ≡ map f ys → xs ≡ ys

@@ -2,7 +2,7 @@
 use Rattle.std.proofs.Common.{◌≡◌, ℕ, ℤ, Option, Some, None, ◌+◌, ◌<◌, ◌≤◌, ◌^◌, List, [], ◌∷◌, map, length, true, arith}
 use Rattle.std.specs.Prelude.{All}
 use Rattle.std.specs.List.{flat_map}
-use Rattle.std.proofs.lemmas.List.Elements.{All-nil, All-cons, All-head, All-tail, All-append}
+use Rattle.std.proofs.lemmas.List.Elements.{All-nil, All-cons, All-head, All-tail, All-append, All-map, All-weaker}
 use Rattle.bor_terms.specs.Texts.{is_agent_name}
 use Rattle.bods_read.specs.Forms.{IsFormedStatement, IsFormedDetails, IsFormedInterest, IsFormedIdentifier}
 use Rattle.bods_read.specs.declared.statement.Statement.{Statement}
@@ -24,20 +24,14 @@ use Rattle.bor_store_sql.specs.Rows.Stored.{IsCounted, AreCounted, IsStored}
 pub register_formed : (r : Register) → IsFormed r → IsFormedRegisterRow (register_row r)
 register_formed r h = record { day = h.day; registrar = h.registrar }
 
-agent_formed : (m : Member) → IsFormedMember m → IsFormedAgentRow (agent_row m)
-agent_formed m h = record { name = h.name; token = h.token }
-
 pub agents_formed : (ms : List Member) → All IsFormedMember ms → All IsFormedAgentRow (map agent_row ms)
-agents_formed [] h = All-nil IsFormedAgentRow
-agents_formed (m ∷ ms) h = All-cons IsFormedAgentRow (agent_row m) (map agent_row ms) (agent_formed m (All-head IsFormedMember m ms h)) (agents_formed ms (All-tail IsFormedMember m ms h))
+agents_formed ms h = All-map IsFormedAgentRow agent_row ms (All-weaker IsFormedMember (λ m. IsFormedAgentRow (agent_row m)) (λ m is. record { name = is.name; token = is.token }) ms h)
 
 pub filing_formed : (agent : List ℕ) → is_agent_name agent ≡ true → (f : AcceptedFiling) → IsFormedFiling f → IsFormedFilingRow (filing_row agent f)
 filing_formed agent is f h = record { agent = is; number = h.number; key = h.key; due = h.due }
 
 pub filings_formed : (agent : List ℕ) → is_agent_name agent ≡ true → (fs : List AcceptedFiling) → All IsFormedFiling fs → All IsFormedFilingRow (map (filing_row agent) fs)
-filings_formed agent is [] h = All-nil IsFormedFilingRow
-filings_formed agent is (f ∷ fs) h =
-    All-cons IsFormedFilingRow (filing_row agent f) (map (filing_row agent) fs) (filing_formed agent is f (All-head IsFormedFiling f fs h)) (filings_formed agent is fs (All-tail IsFormedFiling f fs h))
+filings_formed agent is fs h = All-map IsFormedFilingRow (filing_row agent) fs (All-weaker IsFormedFiling (λ f. IsFormedFilingRow (filing_row agent f)) (filing_formed agent is) fs h)
 
 pub lines_formed : (ms : List Member) → All IsFormedMember ms → All IsFormedFilingRow (filing_lines ms)
 lines_formed [] h = All-nil IsFormedFilingRow
@@ -137,18 +131,18 @@ identifier_rows_formed p h =
 -- ---- the rows of many
 
 pub all_bare_formed : (ps : List Placed) → All IsFormedPlaced ps → All IsFormedStatementRow (map bare ps)
-all_bare_formed [] h = All-nil IsFormedStatementRow
-all_bare_formed (p ∷ ps) h = All-cons IsFormedStatementRow (bare p) (map bare ps) (bare_formed p (All-head IsFormedPlaced p ps h)) (all_bare_formed ps (All-tail IsFormedPlaced p ps h))
+all_bare_formed ps h = All-map IsFormedStatementRow bare ps (All-weaker IsFormedPlaced (λ p. IsFormedStatementRow (bare p)) bare_formed ps h)
+
+-- what holds of each element of each list
+all_listed : {X Y : Type 0} (P : X → Type 0) (Q : Y → Type 0) (rows : X → List Y) → ((x : X) → P x → All Q (rows x)) → (xs : List X) → All P xs → All Q (flat_map rows xs)
+all_listed P Q rows so [] h = All-nil Q
+all_listed P Q rows so (x ∷ xs) h = All-append Q (rows x) (flat_map rows xs) (so x (All-head P x xs h)) (all_listed P Q rows so xs (All-tail P x xs h))
 
 pub all_interests_formed : (ps : List Placed) → All IsFormedPlaced ps → All IsFormedInterestRow (flat_map interest_rows ps)
-all_interests_formed [] h = All-nil IsFormedInterestRow
-all_interests_formed (p ∷ ps) h =
-    All-append IsFormedInterestRow (interest_rows p) (flat_map interest_rows ps) (interest_rows_formed p (All-head IsFormedPlaced p ps h)) (all_interests_formed ps (All-tail IsFormedPlaced p ps h))
+all_interests_formed ps h = all_listed IsFormedPlaced IsFormedInterestRow interest_rows interest_rows_formed ps h
 
 pub all_identifiers_formed : (ps : List Placed) → All IsFormedPlaced ps → All IsFormedIdentifierRow (flat_map identifier_rows ps)
-all_identifiers_formed [] h = All-nil IsFormedIdentifierRow
-all_identifiers_formed (p ∷ ps) h =
-    All-append IsFormedIdentifierRow (identifier_rows p) (flat_map identifier_rows ps) (identifier_rows_formed p (All-head IsFormedPlaced p ps h)) (all_identifiers_formed ps (All-tail IsFormedPlaced p ps h))
+all_identifiers_formed ps h = all_listed IsFormedPlaced IsFormedIdentifierRow identifier_rows identifier_rows_formed ps h
 
 -- ---- interests and their days
 
@@ -167,10 +161,7 @@ periods_formed i h = go i.interest.starts i.interest.ends
     go (Some start) ends = All-cons IsFormedPeriodRow (period_of i) [] (period_formed i h) (All-nil IsFormedPeriodRow)
 
 pub all_lines_formed : (is : List InterestRow) → All IsFormedInterestRow is → All IsFormedInterestLine (map interest_line is)
-all_lines_formed [] h = All-nil IsFormedInterestLine
-all_lines_formed (i ∷ is) h = All-cons IsFormedInterestLine (interest_line i) (map interest_line is) (line_formed i (All-head IsFormedInterestRow i is h)) (all_lines_formed is (All-tail IsFormedInterestRow i is h))
+all_lines_formed is h = All-map IsFormedInterestLine interest_line is (All-weaker IsFormedInterestRow (λ i. IsFormedInterestLine (interest_line i)) line_formed is h)
 
 pub all_periods_formed : (is : List InterestRow) → All IsFormedInterestRow is → All IsFormedPeriodRow (flat_map period_rows is)
-all_periods_formed [] h = All-nil IsFormedPeriodRow
-all_periods_formed (i ∷ is) h =
-    All-append IsFormedPeriodRow (period_rows i) (flat_map period_rows is) (periods_formed i (All-head IsFormedInterestRow i is h)) (all_periods_formed is (All-tail IsFormedInterestRow i is h))
+all_periods_formed is h = all_listed IsFormedInterestRow IsFormedPeriodRow period_rows periods_formed is h

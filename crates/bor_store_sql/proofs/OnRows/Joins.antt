@@ -1,7 +1,6 @@
 -- The rows of the statements that are left, and one statement more.
 use Rattle.std.proofs.Common.{◌≡◌, ℕ, ◌+◌, true, false, List, [], ◌∷◌, ◌++◌, map, append-nil, append_assoc, refl, sym, ap, ◌∙◌}
 use Rattle.std.specs.List.{AllByRecursion, flat_map}
-use Rattle.sqlite_keyed.proofs.ListLemmas.{all-append}
 use Rattle.bor_terms.proofs.Texts.{same_refl}
 use Rattle.bods_read.specs.declared.details.Details.{Details}
 use Rattle.bods_read.specs.declared.details.Details.TheVariants as details
@@ -14,33 +13,23 @@ use Rattle.bor_store_sql.specs.declared.rows.typed.InterestRow.{InterestRow}
 use Rattle.bor_store_sql.specs.declared.rows.typed.IdentifierRow.{IdentifierRow}
 use Rattle.bor_store_sql.specs.Rows.Placed.{same_place, bare, interest_rows, identifier_rows, interests_from, identifiers_from, interests_listed, identifiers_listed, part_of, details_with, with_lists, AreApart}
 use Rattle.bor_store_sql.proofs.OnRows.Numbers.{same_number}
+use Rattle.bor_store_sql.proofs.OnRows.Each.{each_identifier, each_identifier_of, each_interest, each_interest_of}
+use Rattle.bor_store_sql.proofs.OnRows.Lists.{no_values}
 
 pub at_itself : (at : At) → same_place at at ≡ true
 at_itself at = rw (same_refl at.agent, same_number at.filing, same_number at.place) refl
 
 pub interests_at : (at : At) (item : ℕ) (is : List Interest) → AllByRecursion (λ (row : InterestRow). same_place row.at at ≡ true) (interests_from at item is)
-interests_at at item [] = tt
-interests_at at item (i ∷ is) = (at_itself at, interests_at at (item + 1) is)
+interests_at at item is = each_interest (λ row. same_place row.at at ≡ true) at item is (λ k i low. at_itself at)
 
 pub identifiers_at : (at : At) (item : ℕ) (is : List Identifier) → AllByRecursion (λ (row : IdentifierRow). same_place row.at at ≡ true) (identifiers_from at item is)
-identifiers_at at item [] = tt
-identifiers_at at item (i ∷ is) = (at_itself at, identifiers_at at (item + 1) is)
-
-other_interests : (at other : At) (item : ℕ) (is : List Interest) → same_place other at ≡ false → AllByRecursion (λ (row : InterestRow). same_place row.at at ≡ false) (interests_from other item is)
-other_interests at other item [] e = tt
-other_interests at other item (i ∷ is) e = (e, other_interests at other (item + 1) is e)
-
-other_identifiers : (at other : At) (item : ℕ) (is : List Identifier) → same_place other at ≡ false → AllByRecursion (λ (row : IdentifierRow). same_place row.at at ≡ false) (identifiers_from other item is)
-other_identifiers at other item [] e = tt
-other_identifiers at other item (i ∷ is) e = (e, other_identifiers at other (item + 1) is e)
+identifiers_at at item is = each_identifier (λ row. same_place row.at at ≡ true) at item is (λ k i low. at_itself at)
 
 pub no_interests_at : (at : At) (ps : List Placed) → AllByRecursion (λ (q : Placed). same_place q.at at ≡ false) ps → AllByRecursion (λ (row : InterestRow). same_place row.at at ≡ false) (flat_map interest_rows ps)
-no_interests_at at [] all = tt
-no_interests_at at (p ∷ ps) all = all-append _ (interest_rows p) (flat_map interest_rows ps) (other_interests at p.at 1 (interests_listed p.statement.details) all.0) (no_interests_at at ps all.1)
+no_interests_at at ps all = each_interest_of (λ row. same_place row.at at ≡ false) (λ (q : Placed). same_place q.at at ≡ false) ps all (λ p item i off. off)
 
 pub no_identifiers_at : (at : At) (ps : List Placed) → AllByRecursion (λ (q : Placed). same_place q.at at ≡ false) ps → AllByRecursion (λ (row : IdentifierRow). same_place row.at at ≡ false) (flat_map identifier_rows ps)
-no_identifiers_at at [] all = tt
-no_identifiers_at at (p ∷ ps) all = all-append _ (identifier_rows p) (flat_map identifier_rows ps) (other_identifiers at p.at 1 (identifiers_listed p.statement.details) all.0) (no_identifiers_at at ps all.1)
+no_identifiers_at at ps all = each_identifier_of (λ row. same_place row.at at ≡ false) (λ (q : Placed). same_place q.at at ≡ false) ps all (λ p item i off. off)
 
 interests_back : (at : At) (item : ℕ) (is : List Interest) → map (λ (row : InterestRow). row.interest) (interests_from at item is) ≡ is
 interests_back at item [] = refl
@@ -74,11 +63,7 @@ Splits {R} at_of rows at own rest = (mine more : List R) → rows ≡ mine ++ mo
     → AllByRecursion (λ row. same_place (at_of row) at ≡ false) more → (own ≡ mine) × (rest ≡ more)
 
 pub none_left : (all out : List Placed) (rows : List StatementRow) (is : List InterestRow) (ds : List IdentifierRow) → Left all out rows is ds → rows ≡ [] → out ≡ all
-none_left all out rows is ds l none = go l.left l.whole (sym l.rows_are ∙ none)
-  where
-    go : (left : List Placed) → out ++ left ≡ all → map bare left ≡ [] → out ≡ all
-    go [] whole e = sym (append-nil out) ∙ whole
-    go (p ∷ left) whole e = absurd cc
+none_left all out rows is ds l none = sym (append-nil out) ∙ ap (λ left. out ++ left) (sym (no_values bare l.left (sym l.rows_are ∙ none))) ∙ l.whole
 
 pub one_more : (all out : List Placed) (rows more : List StatementRow) (row : StatementRow) (is is_left own_is : List InterestRow) (ds ds_left own_ds : List IdentifierRow) (made : Placed)
     → Left all out rows is ds → rows ≡ row ∷ more → Splits (λ (r : InterestRow). r.at) is row.at own_is is_left → Splits (λ (r : IdentifierRow). r.at) ds row.at own_ds ds_left

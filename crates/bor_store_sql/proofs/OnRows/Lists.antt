@@ -4,6 +4,11 @@ use Rattle.std.proofs.Math.Seq.{drop-cons}
 use Rattle.std.specs.Prelude.{All, slice_get, Some}
 use Rattle.std.proofs.lemmas.List.Elements.{All-head, All-tail}
 
+-- where there are no rows there are no values
+pub no_values : {X R : Type 0} (columns : X → R) (xs : List X) → map columns xs ≡ [] → xs ≡ []
+no_values columns [] none = refl
+no_values columns (x ∷ xs) none = absurd cc
+
 module _ {X R : Type 0} (columns : X → R) (is_formed : X → Type 0) where
   -- some values are read of all, and the rows are those of the others
   pub record ToRead (all out : List X) (rows : List R) : Type 0 where
@@ -29,11 +34,7 @@ module _ {X R : Type 0} (columns : X → R) (is_formed : X → Type 0) where
           }
 
   pub all_read : (all out : List X) → ToRead all out [] → out ≡ all
-  all_read all out l = go l.left l.whole l.rows_are
-    where
-      go : (left : List X) → out ++ left ≡ all → [] ≡ map columns left → out ≡ all
-      go [] whole e = sym (append-nil out) ∙ whole
-      go (y ∷ left) whole e = absurd cc
+  all_read all out l = sym (append-nil out) ∙ ap (λ left. out ++ left) (sym (no_values columns l.left (sym l.rows_are))) ∙ l.whole
 
   -- the next row is that of a value
   pub next_read : (all out : List X) (row : R) (rows : List R) (Q : Type 0) → ToRead all out (row ∷ rows) → ((y : X) → row ≡ columns y → is_formed y → Q) → Q

@@ -1,7 +1,7 @@
 -- Values are told by their rows: no two registers' members have the same rows.
 use Rattle.std.proofs.Common.{◌≡◌, ◌+◌, ◌==◌, ℕ, ℤ, Bool, true, false, true≢false, not, Option, Some, None, List, [], ◌∷◌, ◌++◌, map, length, unwrap_or, refl, sym, ap, ap₂, subst, ◌∙◌, arith}
 use Rattle.std.specs.List.{AllByRecursion, flat_map, position_from}
-use Rattle.sqlite_keyed.proofs.ListLemmas.{all-append}
+use Rattle.sqlite_keyed.proofs.ListLemmas.{all-append, all-map}
 use Rattle.bor_terms.specs.Texts.{is_same}
 use Rattle.bor_terms.proofs.Texts.{same_refl}
 use Rattle.bor_register.specs.Register.{AllAbove, IsOrdered}
@@ -128,16 +128,13 @@ all_filed [] = []
 all_filed (m ∷ ms) = map (filed m.name) m.filings ++ all_filed ms
 
 filed_at : (agent : List ℕ) (fs : List AcceptedFiling) → AllByRecursion (λ (o : Filed). is_same o.agent agent ≡ true) (map (filed agent) fs)
-filed_at agent [] = tt
-filed_at agent (f ∷ fs) = (same_refl agent, filed_at agent fs)
-
-other_filed : (agent other : List ℕ) (fs : List AcceptedFiling) → is_same other agent ≡ false → AllByRecursion (λ (o : Filed). is_same o.agent agent ≡ false) (map (filed other) fs)
-other_filed agent other [] e = tt
-other_filed agent other (f ∷ fs) e = (e, other_filed agent other fs e)
+filed_at agent fs = all-map (λ (o : Filed). is_same o.agent agent ≡ true) (filed agent) (λ f. same_refl agent) fs
 
 above_filed : (agent : List ℕ) (ms : List Member) → AllAbove agent ms → AllByRecursion (λ (o : Filed). is_same o.agent agent ≡ false) (all_filed ms)
 above_filed agent [] h = tt
-above_filed agent (m ∷ ms) h = all-append _ (map (filed m.name) m.filings) (all_filed ms) (other_filed agent m.name m.filings (differs agent m.name h.0)) (above_filed agent ms h.1)
+above_filed agent (m ∷ ms) h =
+    all-append (λ (o : Filed). is_same o.agent agent ≡ false) (map (filed m.name) m.filings) (all_filed ms)
+    (all-map (λ (o : Filed). is_same o.agent agent ≡ false) (filed m.name) (λ f. differs agent m.name h.0) m.filings) (above_filed agent ms h.1)
 
 pub same_members : (ms ns : List Member) → IsOrdered ms → IsOrdered ns → AllNumbered ms → AllNumbered ns → map agent_row ms ≡ map agent_row ns → all_filed ms ≡ all_filed ns → placed ms ≡ placed ns → ms ≡ ns
 same_members [] [] up up_too a b rows fs ps = refl

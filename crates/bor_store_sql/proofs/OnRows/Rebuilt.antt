@@ -1,8 +1,7 @@
 -- Filings and members from rows, one after the other.
 use Rattle.std.proofs.Common.{◌≡◌, ℕ, ◌+◌, ◌<◌, ◌==◌, Bool, true, false, List, [], ◌∷◌, ◌++◌, map, append-nil, append_assoc, refl, sym, ap, ◌∙◌, arith}
 use Rattle.std.specs.List.{AllByRecursion}
-use Rattle.std.proofs.lemmas.Bool.Decides.{nat_tests}
-use Rattle.sqlite_keyed.proofs.ListLemmas.{all-append}
+use Rattle.sqlite_keyed.proofs.ListLemmas.{all-append, all-map}
 use Rattle.bor_terms.specs.Texts.{is_same, is_below}
 use Rattle.bor_terms.proofs.Texts.{same_refl, same_sym, below_differs}
 use Rattle.bods_read.specs.declared.statement.Statement.{Statement}
@@ -15,7 +14,9 @@ use Rattle.bor_store_sql.specs.declared.rows.typed.Placed.{Placed}
 use Rattle.bor_store_sql.specs.Rows.Placed.{agent_row, filing_row, filing_lines, placed_from, placed_by, placed}
 use Rattle.bor_register.specs.Bare.{without_file, member_without_files, without_files}
 use Rattle.bor_store_sql.specs.Rows.Stored.{AreNumbered, AllNumbered}
-use Rattle.bor_store_sql.proofs.OnRows.Numbers.{same_number}
+use Rattle.bor_store_sql.proofs.OnRows.Numbers.{same_number, other_number}
+use Rattle.bor_store_sql.proofs.OnRows.Each.{each_above, each_by, each_from, each_own}
+use Rattle.bor_store_sql.proofs.OnRows.Lists.{no_values}
 
 -- rows are split into those of a key and those that follow
 abbrev pub Splits : {R : Type 0} → (R → Bool) → List R → List R → List R → Type 0
@@ -25,19 +26,10 @@ Splits {R} is_own rows own rest = (mine more : List R) → rows ≡ mine ++ more
 -- ---- the statements of a filing
 
 pub statements_at : (agent : List ℕ) (number place : ℕ) (ss : List Statement) → AllByRecursion (λ (p : Placed). (p.at.filing == number) ≡ true) (placed_from agent number place ss)
-statements_at agent number place [] = tt
-statements_at agent number place (s ∷ ss) = (same_number number, statements_at agent number (place + 1) ss)
-
-other_statements : (agent : List ℕ) (number other place : ℕ) (ss : List Statement) → number < other → AllByRecursion (λ (p : Placed). (p.at.filing == number) ≡ false) (placed_from agent other place ss)
-other_statements agent number other place [] low = tt
-other_statements agent number other place (s ∷ ss) low = (grind (arith, nat_tests), other_statements agent number other (place + 1) ss low)
+statements_at agent number place ss = each_from (λ p. (p.at.filing == number) ≡ true) agent number place ss (λ k s low. same_number number)
 
 pub later_statements : (agent : List ℕ) (number n : ℕ) (fs : List AcceptedFiling) → number < n → AreNumbered n fs → AllByRecursion (λ (p : Placed). (p.at.filing == number) ≡ false) (placed_by agent fs)
-later_statements agent number n [] low numbered = tt
-later_statements agent number n (f ∷ fs) low numbered =
-    all-append _ (placed_from agent f.number 1 f.statements) (placed_by agent fs)
-    (other_statements agent number f.number 1 f.statements (let is = numbered.0 in omega (arith, is)))
-    (later_statements agent number (n + 1) fs (omega arith) numbered.1)
+later_statements agent number n fs low numbered = each_by (λ p. (p.at.filing == number) ≡ false) agent n fs numbered (λ filing place s later. other_number number filing (omega (arith, later)))
 
 pub statements_back : (agent : List ℕ) (number place : ℕ) (ss : List Statement) → map (λ (p : Placed). p.statement) (placed_from agent number place ss) ≡ ss
 statements_back agent number place [] = refl
@@ -88,48 +80,27 @@ one_filing agent all out row rows statements own rest made l split made_is = go 
         }
 
 pub all_filings : (agent : List ℕ) (all out : List AcceptedFiling) (statements : List Placed) → FilingsLeft agent all out [] statements → out ≡ map without_file all
-all_filings agent all out statements l = go l.left l.whole l.rows_are
-  where
-    go : (left : List AcceptedFiling) → out ++ map without_file left ≡ map without_file all → [] ≡ map (filing_row agent) left → out ≡ map without_file all
-    go [] whole e = sym (append-nil out) ∙ whole
-    go (f ∷ left) whole e = absurd cc
+all_filings agent all out statements l = sym (append-nil out) ∙ ap (λ fs. out ++ map without_file fs) (sym (no_values (filing_row agent) l.left (sym l.rows_are))) ∙ l.whole
 
 -- ---- the rows of an agent
 
 pub filings_at : (agent : List ℕ) (fs : List AcceptedFiling) → AllByRecursion (λ (row : FilingRow). is_same row.agent agent ≡ true) (map (filing_row agent) fs)
-filings_at agent [] = tt
-filings_at agent (f ∷ fs) = (same_refl agent, filings_at agent fs)
-
-other_filings : (agent other : List ℕ) (fs : List AcceptedFiling) → is_same other agent ≡ false → AllByRecursion (λ (row : FilingRow). is_same row.agent agent ≡ false) (map (filing_row other) fs)
-other_filings agent other [] e = tt
-other_filings agent other (f ∷ fs) e = (e, other_filings agent other fs e)
-
-agent_from : (agent : List ℕ) (number place : ℕ) (ss : List Statement) → AllByRecursion (λ (p : Placed). is_same p.at.agent agent ≡ true) (placed_from agent number place ss)
-agent_from agent number place [] = tt
-agent_from agent number place (s ∷ ss) = (same_refl agent, agent_from agent number (place + 1) ss)
+filings_at agent fs = all-map (λ (row : FilingRow). is_same row.agent agent ≡ true) (filing_row agent) (λ f. same_refl agent) fs
 
 pub agent_by : (agent : List ℕ) (fs : List AcceptedFiling) → AllByRecursion (λ (p : Placed). is_same p.at.agent agent ≡ true) (placed_by agent fs)
-agent_by agent [] = tt
-agent_by agent (f ∷ fs) = all-append _ (placed_from agent f.number 1 f.statements) (placed_by agent fs) (agent_from agent f.number 1 f.statements) (agent_by agent fs)
-
-other_from : (agent other : List ℕ) (number place : ℕ) (ss : List Statement) → is_same other agent ≡ false → AllByRecursion (λ (p : Placed). is_same p.at.agent agent ≡ false) (placed_from other number place ss)
-other_from agent other number place [] e = tt
-other_from agent other number place (s ∷ ss) e = (e, other_from agent other number (place + 1) ss e)
-
-other_by : (agent other : List ℕ) (fs : List AcceptedFiling) → is_same other agent ≡ false → AllByRecursion (λ (p : Placed). is_same p.at.agent agent ≡ false) (placed_by other fs)
-other_by agent other [] e = tt
-other_by agent other (f ∷ fs) e = all-append _ (placed_from other f.number 1 f.statements) (placed_by other fs) (other_from agent other f.number 1 f.statements e) (other_by agent other fs e)
+agent_by agent fs = each_own (λ p. is_same p.at.agent agent ≡ true) agent fs (λ filing place s. same_refl agent)
 
 pub differs : (agent other : List ℕ) → is_below agent other ≡ true → is_same other agent ≡ false
 differs agent other h = same_sym other agent ∙ below_differs agent other h
 
 pub above_filings : (agent : List ℕ) (ms : List Member) → AllAbove agent ms → AllByRecursion (λ (row : FilingRow). is_same row.agent agent ≡ false) (filing_lines ms)
 above_filings agent [] h = tt
-above_filings agent (m ∷ ms) h = all-append _ (map (filing_row m.name) m.filings) (filing_lines ms) (other_filings agent m.name m.filings (differs agent m.name h.0)) (above_filings agent ms h.1)
+above_filings agent (m ∷ ms) h =
+    all-append (λ (row : FilingRow). is_same row.agent agent ≡ false) (map (filing_row m.name) m.filings) (filing_lines ms)
+    (all-map (λ (row : FilingRow). is_same row.agent agent ≡ false) (filing_row m.name) (λ f. differs agent m.name h.0) m.filings) (above_filings agent ms h.1)
 
 pub above_statements : (agent : List ℕ) (ms : List Member) → AllAbove agent ms → AllByRecursion (λ (p : Placed). is_same p.at.agent agent ≡ false) (placed ms)
-above_statements agent [] h = tt
-above_statements agent (m ∷ ms) h = all-append _ (placed_by m.name m.filings) (placed ms) (other_by agent m.name m.filings (differs agent m.name h.0)) (above_statements agent ms h.1)
+above_statements agent ms h = each_above (λ p. is_same p.at.agent agent ≡ false) agent ms h (λ other filing place s below. differs agent other below)
 
 -- some members are made of all, and the rows are those of the others
 pub record MembersLeft (all out : List Member) (rows : List AgentRow) (filings : List FilingRow) (statements : List Placed) : Type 0 where
@@ -170,8 +141,4 @@ one_member all out row rows filings own_filings more_filings statements own_stat
         }
 
 pub all_members : (all out : List Member) (filings : List FilingRow) (statements : List Placed) → MembersLeft all out [] filings statements → out ≡ without_files all
-all_members all out filings statements l = go l.left l.whole l.rows_are
-  where
-    go : (left : List Member) → out ++ without_files left ≡ without_files all → [] ≡ map agent_row left → out ≡ without_files all
-    go [] whole e = sym (append-nil out) ∙ whole
-    go (m ∷ left) whole e = absurd cc
+all_members all out filings statements l = sym (append-nil out) ∙ ap (λ ms. out ++ without_files ms) (sym (no_values agent_row l.left (sym l.rows_are))) ∙ l.whole

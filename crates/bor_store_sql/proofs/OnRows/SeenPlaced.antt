@@ -5,7 +5,7 @@ use Rattle.std.specs.List.{AllByRecursion, list_any}
 use Rattle.std.proofs.Math.Bool.{or-false}
 use Rattle.std.proofs.lemmas.List.{map-append}
 use Rattle.std.proofs.lemmas.List.Elements.{filter-append}
-use Rattle.sqlite_keyed.proofs.ListLemmas.{all-append, filter-map, filter_all, filter_none}
+use Rattle.sqlite_keyed.proofs.ListLemmas.{filter-map, filter_all, filter_none}
 use Rattle.bor_terms.specs.Texts.{is_same}
 use Rattle.bods_read.specs.declared.statement.Statement.{Statement}
 use Rattle.bor_register.specs.Rows.{row_of, rows_from, rows_in, rows_of, of_declaration, is_visible}
@@ -15,6 +15,7 @@ use Rattle.bor_store_sql.specs.Rows.Placed.{placed_from, placed_by}
 use Rattle.bor_store_sql.specs.Rows.Seen.{row_placed, is_of_declaration, is_seen}
 use Rattle.bor_store_sql.specs.Rows.Stored.{AreNumbered}
 use Rattle.bor_store_sql.proofs.OnRows.Numbers.{same_number, other_number, before_number}
+use Rattle.bor_store_sql.proofs.OnRows.Each.{each_by, each_from}
 
 rows_from-placed : (agent : List ℕ) (number place : ℕ) (ss : List Statement) → rows_from agent number place ss ≡ map row_placed (placed_from agent number place ss)
 rows_from-placed agent number place [] = refl
@@ -52,22 +53,14 @@ module _ (viewer : List ℕ) (day : ℤ) (agent : List ℕ) where
 
   own_seen : (f : AcceptedFiling) (fs : List AcceptedFiling) (n place : ℕ) → f.number < n → AreNumbered n fs → (ss : List Statement)
       → AllByRecursion (λ (p : Placed). is_seen viewer day agent (f ∷ fs) p ≡ is_visible viewer day agent f) (placed_from agent f.number place ss)
-  own_seen f fs n place low numbered [] = tt
-  own_seen f fs n place low numbered (s ∷ ss) =
-      (rw (same_number f.number, none_later f.number n fs low numbered) (or-false (is_visible viewer day agent f)), own_seen f fs n (place + 1) low numbered ss)
-
-  later_from : (f : AcceptedFiling) (fs : List AcceptedFiling) (number place : ℕ) → f.number < number → (ss : List Statement)
-      → AllByRecursion (λ (p : Placed). is_seen viewer day agent (f ∷ fs) p ≡ is_seen viewer day agent fs p) (placed_from agent number place ss)
-  later_from f fs number place low [] = tt
-  later_from f fs number place low (s ∷ ss) = (rw (before_number f.number number low) refl, later_from f fs number (place + 1) low ss)
+  own_seen f fs n place low numbered ss =
+      each_from (λ p. is_seen viewer day agent (f ∷ fs) p ≡ is_visible viewer day agent f) agent f.number place ss
+      (λ k s from. rw (same_number f.number, none_later f.number n fs low numbered) (or-false (is_visible viewer day agent f)))
 
   later_by : (f : AcceptedFiling) (fs : List AcceptedFiling) (n : ℕ) (gs : List AcceptedFiling) → f.number < n → AreNumbered n gs
       → AllByRecursion (λ (p : Placed). is_seen viewer day agent (f ∷ fs) p ≡ is_seen viewer day agent fs p) (placed_by agent gs)
-  later_by f fs n [] low numbered = tt
-  later_by f fs n (g ∷ gs) low numbered =
-      all-append _ (placed_from agent g.number 1 g.statements) (placed_by agent gs)
-      (later_from f fs g.number 1 (let is = numbered.0 in omega (arith, is)) g.statements)
-      (later_by f fs (n + 1) gs (omega arith) numbered.1)
+  later_by f fs n gs low numbered =
+      each_by (λ p. is_seen viewer day agent (f ∷ fs) p ≡ is_seen viewer day agent fs p) agent n gs numbered (λ filing place s from. rw (before_number f.number filing (omega (arith, from))) refl)
 
   all_own : (b : Bool) (q : Placed → Bool) (ps : List Placed) → AllByRecursion (λ p. q p ≡ b) ps → filter q ps ≡ (if b then ps else [])
   all_own true q ps h = filter_all q ps h

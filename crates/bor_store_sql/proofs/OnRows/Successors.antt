@@ -2,7 +2,7 @@
 use Rattle.std.proofs.Common.{◌≡◌, ℕ, ◌+◌, ◌<◌, ◌≤◌, ◌==◌, Bool, true, false, ◌&&◌, ◌||◌, List, [], ◌∷◌, ◌++◌, append-nil, Option, Some, None, refl, sym, ap, ap₂, ◌∙◌, arith, if◌then◌else◌}
 use Rattle.std.specs.Prelude.{filter, nat_lt}
 use Rattle.std.specs.List.{list_any, last_or}
-use Rattle.std.proofs.Math.Bool.{and-true, and-false, or-false}
+use Rattle.std.proofs.Math.Bool.{and-true, and-false, or-false, or_assoc}
 use Rattle.std.proofs.lemmas.Bool.Decides.{nat_tests}
 use Rattle.std.proofs.lemmas.List.Elements.{filter-append}
 use Rattle.std.proofs.lemmas.List.Folds.{list_any-append}
@@ -15,7 +15,9 @@ use Rattle.bor_store_sql.specs.declared.rows.typed.Placed.{Placed}
 use Rattle.bor_store_sql.specs.Rows.Placed.{placed_from, placed_by}
 use Rattle.bor_store_sql.specs.Rows.Seen.{is_of_record_of, is_later}
 use Rattle.bor_store_sql.specs.Rows.Stored.{AreNumbered}
-use Rattle.bor_store_sql.proofs.OnRows.Numbers.{same_number}
+use Rattle.bor_store_sql.proofs.OnRows.Numbers.{same_number, other_number}
+use Rattle.bor_store_sql.proofs.OnRows.Each.{each_by, each_from}
+use Rattle.sqlite_keyed.proofs.ListLemmas.{filter_all, filter_none}
 
 -- ---- statements of a record in later filings
 
@@ -48,22 +50,14 @@ later_after number p agent n (g ∷ gs) low numbered =
 -- ---- the statements of a filing
 
 pub own_filing : (agent : List ℕ) (number place : ℕ) (ss : List Statement) → filter (λ (p : Placed). p.at.filing == number) (placed_from agent number place ss) ≡ placed_from agent number place ss
-own_filing agent number place [] = refl
-own_filing agent number place (s ∷ ss) = rw (same_number number) (ap (λ l. record { at = record { agent = agent; filing = number; place = place }; statement = s } ∷ l) (own_filing agent number (place + 1) ss))
+own_filing agent number place ss = filter_all (λ (p : Placed). p.at.filing == number) (placed_from agent number place ss) (each_from (λ p. (p.at.filing == number) ≡ true) agent number place ss (λ k s low. same_number number))
 
 pub other_filing : (agent : List ℕ) (number filing place : ℕ) (ss : List Statement) → (filing == number) ≡ false → filter (λ (p : Placed). p.at.filing == number) (placed_from agent filing place ss) ≡ []
-other_filing agent number filing place [] e = refl
-other_filing agent number filing place (s ∷ ss) e = rw e (other_filing agent number filing (place + 1) ss e)
-
-differs : (n m : ℕ) → n < m → (m == n) ≡ false
-differs n m low = grind (arith, nat_tests)
+other_filing agent number filing place ss e = filter_none (λ (p : Placed). p.at.filing == number) (placed_from agent filing place ss) (each_from (λ p. (p.at.filing == number) ≡ false) agent filing place ss (λ k s low. e))
 
 pub none_filed : (agent : List ℕ) (number n : ℕ) (gs : List AcceptedFiling) → number < n → AreNumbered n gs → filter (λ (p : Placed). p.at.filing == number) (placed_by agent gs) ≡ []
-none_filed agent number n [] low numbered = refl
-none_filed agent number n (g ∷ gs) low numbered =
-    filter-append (λ (p : Placed). p.at.filing == number) (placed_from agent g.number 1 g.statements) (placed_by agent gs)
-    ∙ ap₂ (λ xs ys. xs ++ ys) (other_filing agent number g.number 1 g.statements (differs number g.number (let is = numbered.0 in omega (arith, is))))
-    (none_filed agent number (n + 1) gs (omega arith) numbered.1)
+none_filed agent number n gs low numbered =
+    filter_none (λ (p : Placed). p.at.filing == number) (placed_by agent gs) (each_by (λ p. (p.at.filing == number) ≡ false) agent n gs numbered (λ filing place s later. other_number number filing (omega (arith, later))))
 
 any_statement : (h : Statement → Bool) (agent : List ℕ) (number place : ℕ) (ss : List Statement) → list_any (λ (p : Placed). h p.statement) (placed_from agent number place ss) ≡ list_any h ss
 any_statement h agent number place [] = refl
@@ -165,14 +159,10 @@ last_later number q o low (p ∷ ps) rises within =
     any : Bool
     any = list_any (λ (r : Placed). q r && nat_lt number r.at.filing) ps
 
-    assoc : (a b c : Bool) → ((a || b) || c) ≡ (a || (b || c))
-    assoc true b c = refl
-    assoc false b c = refl
-
     go : (b : Bool) → is_later number (last_or (Some p) (filter q ps)) ≡ (nat_lt number p.at.filing || any) → is_later number (last_or o (filter q ps)) ≡ (is_later number o || any)
         → (is_later number o || nat_lt number p.at.filing) ≡ nat_lt number p.at.filing
         → is_later number (last_or o (if b then p ∷ filter q ps else filter q ps)) ≡ (is_later number o || ((b && nat_lt number p.at.filing) || any))
-    go true taken passed covered = taken ∙ ap (λ b. b || any) (sym covered) ∙ assoc (is_later number o) (nat_lt number p.at.filing) any
+    go true taken passed covered = taken ∙ ap (λ b. b || any) (sym covered) ∙ or_assoc (is_later number o) (nat_lt number p.at.filing) any
     go false taken passed covered = passed
 
 -- a filing has a successor where the last statement of a record of one of its statements stands in a later filing

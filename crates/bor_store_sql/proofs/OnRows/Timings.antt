@@ -1,5 +1,5 @@
 -- Interests to which their days are put, one by one.
-use Rattle.std.proofs.Common.{◌≡◌, ◌<◌, ◌+◌, ◌==◌, ◌&&◌, ℕ, ℤ, Bool, true, false, Option, Some, None, List, [], ◌∷◌, ◌++◌, map, append-nil, append_assoc, refl, sym, ap, ◌∙◌, arith}
+use Rattle.std.proofs.Common.{◌≡◌, ◌+◌, ◌==◌, ℕ, ℤ, false, Option, Some, None, List, [], ◌∷◌, ◌++◌, map, append-nil, append_assoc, refl, sym, ap, ◌∙◌, arith}
 use Rattle.std.specs.List.{AllByRecursion, flat_map}
 use Rattle.sqlite_keyed.proofs.ListLemmas.{all-append}
 use Rattle.bor_store_sql.specs.declared.rows.typed.InterestLine.{InterestLine}
@@ -10,6 +10,8 @@ use Rattle.bor_store_sql.specs.declared.rows.places.At.{At}
 use Rattle.bor_store_sql.specs.declared.rows.typed.Placed.{Placed}
 use Rattle.bor_store_sql.proofs.OnRows.Numbers.{other_number}
 use Rattle.bor_store_sql.specs.Rows.Placed.{AreApart, interest_rows, interests_from, interests_listed, same_place, AreSeveral, Misses, OfNext, if_said, interest_line, period_of, period_rows, same_interest}
+use Rattle.std.proofs.Math.Bool.{and-false}
+use Rattle.bor_store_sql.proofs.OnRows.Each.{each_interest, each_interest_of}
 
 -- the periods of other interests miss this one
 one_missed : (i j : InterestRow) → same_interest j.at j.item i.at i.item ≡ false → Misses i (period_rows j)
@@ -66,31 +68,15 @@ one_more all out line rows lines periods rest starts ends made l first days more
 
 -- ---- the interests of statements that stand apart are several
 
-other_item : (at : At) (m n : ℕ) → m < n → same_interest at n at m ≡ false
-other_item at m n lt = rw (other_number m n lt) refl
-
-later_items : (at : At) (m n : ℕ) (is : List Interest) → m < n → (i : InterestRow) → i.at ≡ at → i.item ≡ m → AllByRecursion (λ (j : InterestRow). same_interest j.at j.item i.at i.item ≡ false) (interests_from at n is)
-later_items at m n [] lt i here e = tt
-later_items at m n (x ∷ is) lt i here e = (rw (here, e) (other_item at m n lt), later_items at m (n + 1) is (omega (arith, lt)) i here e)
-
-and_false : (b : Bool) → (b && false) ≡ false
-and_false true = refl
-and_false false = refl
-
--- of another place
-elsewhere : (i : InterestRow) (at : At) (n : ℕ) (is : List Interest) → same_place at i.at ≡ false → AllByRecursion (λ (j : InterestRow). same_interest j.at j.item i.at i.item ≡ false) (interests_from at n is)
-elsewhere i at n [] e = tt
-elsewhere i at n (x ∷ is) e = (rw e (and_false (n == i.item)), elsewhere i at (n + 1) is e)
-
-all_elsewhere : (i : InterestRow) (ps : List Placed) → AllByRecursion (λ (q : Placed). same_place q.at i.at ≡ false) ps → AllByRecursion (λ (j : InterestRow). same_interest j.at j.item i.at i.item ≡ false) (flat_map interest_rows ps)
-all_elsewhere i [] h = tt
-all_elsewhere i (p ∷ ps) h = all-append _ (interest_rows p) (flat_map interest_rows ps) (elsewhere i p.at 1 (interests_listed p.statement.details) h.0) (all_elsewhere i ps h.1)
-
 several_then : (at : At) (n : ℕ) (is : List Interest) (ps : List Placed) → AllByRecursion (λ (q : Placed). same_place q.at at ≡ false) ps → AreSeveral (flat_map interest_rows ps) → AreSeveral (interests_from at n is ++ flat_map interest_rows ps)
 several_then at n [] ps apart several = several
 several_then at n (x ∷ is) ps apart several =
-    let i : InterestRow = record { at = at; item = n; interest = x } in
-    (all-append _ (interests_from at (n + 1) is) (flat_map interest_rows ps) (later_items at n (n + 1) is (omega arith) i refl refl) (all_elsewhere i ps apart), several_then at (n + 1) is ps apart several)
+    let IsOther : InterestRow → Type 0 = λ j. same_interest j.at j.item at n ≡ false in (
+      all-append IsOther (interests_from at (n + 1) is) (flat_map interest_rows ps)
+          (each_interest IsOther at (n + 1) is (λ item i low. rw (other_number n item (omega (arith, low))) refl))
+          (each_interest_of IsOther (λ (q : Placed). same_place q.at at ≡ false) ps apart (λ p item i off. rw off (and-false (item == n)))),
+      several_then at (n + 1) is ps apart several,
+    )
 
 pub all_several : (ps : List Placed) → AreApart ps → AreSeveral (flat_map interest_rows ps)
 all_several [] h = tt

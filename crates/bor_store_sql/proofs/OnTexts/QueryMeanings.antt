@@ -2,144 +2,144 @@
 use Rattle.std.proofs.Common.{refl}
 use Rattle.sqlite.specs.Listing.{understood}
 use Rattle.sqlite_tied.specs.Compute.{everything}
-use Rattle.bor_store_sql.specs.Texts.Meanings.{AsksBoth}
-use Rattle.bor_store_sql.proofs.Plain.{IsSelect}
-use Rattle.bor_store_sql.specs.Texts.Queries.{all_register_text, all_register_command, all_agents_text, all_agents_command, all_filings_text, all_filings_command, all_statements_text, all_statements_command, all_interests_text, all_interests_command, all_identifiers_text, all_identifiers_command, agent_by_name_text, agent_by_name_command, agent_by_token_text, agent_by_token_command, filing_by_key_text, filing_by_key_command, line_by_key_text, line_by_key_command, line_by_number_text, line_by_number_command, same_bytes_text, same_bytes_command, filings_of_agent_text, filings_of_agent_command, last_filing_text, last_filing_command, last_of_series_text, last_of_series_command, statement_by_id_text, statement_by_id_command, statements_of_filing_text, statements_of_filing_command, statements_of_declaration_text, statements_of_declaration_command, interests_of_statement_text, interests_of_statement_command, identifiers_of_statement_text, identifiers_of_statement_command, more_statements_text, more_statements_command, statements_of_series_text, statements_of_series_command, statements_of_record_text, statements_of_record_command, statements_of_subject_text, statements_of_subject_command, statement_by_place_text, statement_by_place_command, identifiers_by_id_text, identifiers_by_id_command, all_periods_text, all_periods_command, periods_of_statement_text, periods_of_statement_command, file_by_number_text, file_by_number_command}
+use Rattle.bor_store_sql.proofs.Plain.{IsSelect, IsSelectBoth}
+use Rattle.bor_store_sql.specs.Texts.Queries.{all_register_query, all_agents_query, all_filings_query, all_statements_query, all_interests_query, all_identifiers_query, agent_by_name_query, agent_by_token_query, filing_by_key_query, line_by_key_query, line_by_number_query, same_bytes_query, filings_of_agent_query, last_filing_query, last_of_series_query, statement_by_id_query, statements_of_filing_query, statements_of_declaration_query, interests_of_statement_query, identifiers_of_statement_query, more_statements_query, statements_of_series_query, statements_of_record_query, statements_of_subject_query, statement_by_place_query, identifiers_by_id_query, all_periods_query, periods_of_statement_query, file_by_number_query}
+use Rattle.bor_store_sql.specs.declared.texts.queries.TheConstants.{ALL_REGISTER, ALL_AGENTS, ALL_FILINGS, ALL_STATEMENTS, ALL_INTERESTS, ALL_IDENTIFIERS, AGENT_BY_NAME, AGENT_BY_TOKEN, FILING_BY_KEY, LINE_BY_KEY, LINE_BY_NUMBER, SAME_BYTES, FILINGS_OF_AGENT, LAST_FILING, LAST_OF_SERIES, STATEMENT_BY_ID, STATEMENTS_OF_FILING, STATEMENTS_OF_DECLARATION, INTERESTS_OF_STATEMENT, IDENTIFIERS_OF_STATEMENT, MORE_STATEMENTS, STATEMENTS_OF_SERIES, STATEMENTS_OF_RECORD, STATEMENTS_OF_SUBJECT, STATEMENT_BY_PLACE, IDENTIFIERS_BY_ID, ALL_PERIODS, PERIODS_OF_STATEMENT, FILE_BY_NUMBER}
 
-pub all_register_is : IsSelect all_register_text all_register_command
+pub all_register_is : IsSelect ALL_REGISTER.now all_register_query
 unfolding understood everything
-all_register_is = record { reads = refl; asks = (refl, (refl, refl), refl) }
+all_register_is = record { reads = (_, refl); asks = (_, refl, (refl, refl), refl) }
 
-pub all_agents_is : IsSelect all_agents_text all_agents_command
+pub all_agents_is : IsSelect ALL_AGENTS.now all_agents_query
 unfolding understood everything
-all_agents_is = record { reads = refl; asks = (refl, (refl, refl), refl) }
+all_agents_is = record { reads = (_, refl); asks = (_, refl, (refl, refl), refl) }
 
-pub all_filings_is : IsSelect all_filings_text all_filings_command
+pub all_filings_is : IsSelect ALL_FILINGS.now all_filings_query
 unfolding understood everything
-all_filings_is = record { reads = refl; asks = (refl, (refl, refl), refl) }
+all_filings_is = record { reads = (_, refl); asks = (_, refl, (refl, refl), refl) }
 
-pub all_statements_is : IsSelect all_statements_text all_statements_command
+pub all_statements_is : IsSelect ALL_STATEMENTS.now all_statements_query
 unfolding understood everything
-all_statements_is = record { reads = refl; asks = (refl, (refl, refl), refl) }
+all_statements_is = record { reads = (_, refl); asks = (_, refl, (refl, refl), refl) }
 
-pub all_interests_is : IsSelect all_interests_text all_interests_command
+pub all_interests_is : IsSelect ALL_INTERESTS.now all_interests_query
 unfolding understood everything
-all_interests_is = record { reads = refl; asks = (refl, (refl, refl), refl) }
+all_interests_is = record { reads = (_, refl); asks = (_, refl, (refl, refl), refl) }
 
-pub all_identifiers_is : IsSelect all_identifiers_text all_identifiers_command
+pub all_identifiers_is : IsSelect ALL_IDENTIFIERS.now all_identifiers_query
 unfolding understood everything
-all_identifiers_is = record { reads = refl; asks = (refl, (refl, refl), refl) }
+all_identifiers_is = record { reads = (_, refl); asks = (_, refl, (refl, refl), refl) }
 
-pub agent_by_name_is : IsSelect agent_by_name_text agent_by_name_command
+pub agent_by_name_is : IsSelect AGENT_BY_NAME.now agent_by_name_query
 unfolding understood everything
-agent_by_name_is = record { reads = refl; asks = (refl, (refl, refl), refl) }
+agent_by_name_is = record { reads = (_, refl); asks = (_, refl, (refl, refl), refl) }
 
-pub agent_by_token_is : IsSelect agent_by_token_text agent_by_token_command
+pub agent_by_token_is : IsSelect AGENT_BY_TOKEN.now agent_by_token_query
 unfolding understood everything
-agent_by_token_is = record { reads = refl; asks = (refl, (refl, refl), refl) }
+agent_by_token_is = record { reads = (_, refl); asks = (_, refl, (refl, refl), refl) }
 
-pub filing_by_key_is : IsSelect filing_by_key_text filing_by_key_command
+pub filing_by_key_is : IsSelect FILING_BY_KEY.now filing_by_key_query
 unfolding understood everything
-filing_by_key_is = record { reads = refl; asks = (refl, (refl, refl), refl) }
+filing_by_key_is = record { reads = (_, refl); asks = (_, refl, (refl, refl), refl) }
 
-pub line_by_key_is : IsSelect line_by_key_text line_by_key_command
+pub line_by_key_is : IsSelect LINE_BY_KEY.now line_by_key_query
 unfolding understood everything
-line_by_key_is = record { reads = refl; asks = (refl, (refl, refl), refl) }
+line_by_key_is = record { reads = (_, refl); asks = (_, refl, (refl, refl), refl) }
 
-pub line_by_number_is : IsSelect line_by_number_text line_by_number_command
+pub line_by_number_is : IsSelect LINE_BY_NUMBER.now line_by_number_query
 unfolding understood everything
-line_by_number_is = record { reads = refl; asks = (refl, (refl, refl), refl) }
+line_by_number_is = record { reads = (_, refl); asks = (_, refl, (refl, refl), refl) }
 
-pub same_bytes_is : IsSelect same_bytes_text same_bytes_command
+pub same_bytes_is : IsSelect SAME_BYTES.now same_bytes_query
 unfolding understood everything
-same_bytes_is = record { reads = refl; asks = (refl, (refl, refl), refl) }
+same_bytes_is = record { reads = (_, refl); asks = (_, refl, (refl, refl), refl) }
 
-pub filings_of_agent_is : IsSelect filings_of_agent_text filings_of_agent_command
+pub filings_of_agent_is : IsSelect FILINGS_OF_AGENT.now filings_of_agent_query
 unfolding understood everything
-filings_of_agent_is = record { reads = refl; asks = (refl, (refl, refl), refl) }
+filings_of_agent_is = record { reads = (_, refl); asks = (_, refl, (refl, refl), refl) }
 
-pub last_filing_is : IsSelect last_filing_text last_filing_command
+pub last_filing_is : IsSelect LAST_FILING.now last_filing_query
 unfolding understood everything
-last_filing_is = record { reads = refl; asks = (refl, (refl, refl), refl) }
+last_filing_is = record { reads = (_, refl); asks = (_, refl, (refl, refl), refl) }
 
-pub last_of_series_is : IsSelect last_of_series_text last_of_series_command
+pub last_of_series_is : IsSelect LAST_OF_SERIES.now last_of_series_query
 unfolding understood everything
-last_of_series_is = record { reads = refl; asks = (refl, (refl, refl), refl) }
+last_of_series_is = record { reads = (_, refl); asks = (_, refl, (refl, refl), refl) }
 
-pub statement_by_id_is : IsSelect statement_by_id_text statement_by_id_command
+pub statement_by_id_is : IsSelect STATEMENT_BY_ID.now statement_by_id_query
 unfolding understood everything
-statement_by_id_is = record { reads = refl; asks = (refl, (refl, refl), refl) }
+statement_by_id_is = record { reads = (_, refl); asks = (_, refl, (refl, refl), refl) }
 
-pub statements_of_filing_is : IsSelect statements_of_filing_text statements_of_filing_command
+pub statements_of_filing_is : IsSelect STATEMENTS_OF_FILING.now statements_of_filing_query
 unfolding understood everything
-statements_of_filing_is = record { reads = refl; asks = (refl, (refl, refl), refl) }
+statements_of_filing_is = record { reads = (_, refl); asks = (_, refl, (refl, refl), refl) }
 
-pub statements_of_declaration_is : IsSelect statements_of_declaration_text statements_of_declaration_command
+pub statements_of_declaration_is : IsSelect STATEMENTS_OF_DECLARATION.now statements_of_declaration_query
 unfolding understood everything
-statements_of_declaration_is = record { reads = refl; asks = (refl, (refl, refl), refl) }
+statements_of_declaration_is = record { reads = (_, refl); asks = (_, refl, (refl, refl), refl) }
 
-pub interests_of_statement_is : IsSelect interests_of_statement_text interests_of_statement_command
+pub interests_of_statement_is : IsSelect INTERESTS_OF_STATEMENT.now interests_of_statement_query
 unfolding understood everything
-interests_of_statement_is = record { reads = refl; asks = (refl, (refl, refl), refl) }
+interests_of_statement_is = record { reads = (_, refl); asks = (_, refl, (refl, refl), refl) }
 
-pub identifiers_of_statement_is : IsSelect identifiers_of_statement_text identifiers_of_statement_command
+pub identifiers_of_statement_is : IsSelect IDENTIFIERS_OF_STATEMENT.now identifiers_of_statement_query
 unfolding understood everything
-identifiers_of_statement_is = record { reads = refl; asks = (refl, (refl, refl), refl) }
+identifiers_of_statement_is = record { reads = (_, refl); asks = (_, refl, (refl, refl), refl) }
 
-pub more_statements_is : IsSelect more_statements_text more_statements_command
+pub more_statements_is : IsSelect MORE_STATEMENTS.now more_statements_query
 unfolding understood everything
-more_statements_is = record { reads = refl; asks = (refl, (refl, refl), refl) }
+more_statements_is = record { reads = (_, refl); asks = (_, refl, (refl, refl), refl) }
 
-pub statements_of_series_is : IsSelect statements_of_series_text statements_of_series_command
+pub statements_of_series_is : IsSelect STATEMENTS_OF_SERIES.now statements_of_series_query
 unfolding understood everything
-statements_of_series_is = record { reads = refl; asks = (refl, (refl, refl), refl) }
+statements_of_series_is = record { reads = (_, refl); asks = (_, refl, (refl, refl), refl) }
 
-pub statements_of_record_is : IsSelect statements_of_record_text statements_of_record_command
+pub statements_of_record_is : IsSelect STATEMENTS_OF_RECORD.now statements_of_record_query
 unfolding understood everything
-statements_of_record_is = record { reads = refl; asks = (refl, (refl, refl), refl) }
+statements_of_record_is = record { reads = (_, refl); asks = (_, refl, (refl, refl), refl) }
 
-pub statements_of_subject_is : IsSelect statements_of_subject_text statements_of_subject_command
+pub statements_of_subject_is : IsSelect STATEMENTS_OF_SUBJECT.now statements_of_subject_query
 unfolding understood everything
-statements_of_subject_is = record { reads = refl; asks = (refl, (refl, refl), refl) }
+statements_of_subject_is = record { reads = (_, refl); asks = (_, refl, (refl, refl), refl) }
 
-pub statement_by_place_is : IsSelect statement_by_place_text statement_by_place_command
+pub statement_by_place_is : IsSelect STATEMENT_BY_PLACE.now statement_by_place_query
 unfolding understood everything
-statement_by_place_is = record { reads = refl; asks = (refl, (refl, refl), refl) }
+statement_by_place_is = record { reads = (_, refl); asks = (_, refl, (refl, refl), refl) }
 
-pub identifiers_by_id_is : IsSelect identifiers_by_id_text identifiers_by_id_command
+pub identifiers_by_id_is : IsSelect IDENTIFIERS_BY_ID.now identifiers_by_id_query
 unfolding understood everything
-identifiers_by_id_is = record { reads = refl; asks = (refl, (refl, refl), refl) }
+identifiers_by_id_is = record { reads = (_, refl); asks = (_, refl, (refl, refl), refl) }
 
-pub all_periods_is : IsSelect all_periods_text all_periods_command
+pub all_periods_is : IsSelect ALL_PERIODS.now all_periods_query
 unfolding understood everything
-all_periods_is = record { reads = refl; asks = (refl, (refl, refl), refl) }
+all_periods_is = record { reads = (_, refl); asks = (_, refl, (refl, refl), refl) }
 
-pub periods_of_statement_is : IsSelect periods_of_statement_text periods_of_statement_command
+pub periods_of_statement_is : IsSelect PERIODS_OF_STATEMENT.now periods_of_statement_query
 unfolding understood everything
-periods_of_statement_is = record { reads = refl; asks = (refl, (refl, refl), refl) }
+periods_of_statement_is = record { reads = (_, refl); asks = (_, refl, (refl, refl), refl) }
 
-pub file_by_number_is : IsSelect file_by_number_text file_by_number_command
+pub file_by_number_is : IsSelect FILE_BY_NUMBER.now file_by_number_query
 unfolding understood everything
-file_by_number_is = record { reads = refl; asks = (refl, (refl, refl), refl) }
+file_by_number_is = record { reads = (_, refl); asks = (_, refl, (refl, refl), refl) }
 
 -- ---- those that are asked of version 1 too
 
-pub all_filings_both : AsksBoth all_filings_text all_filings_command
+pub all_filings_both : IsSelectBoth ALL_FILINGS.now all_filings_query
 unfolding understood everything
-all_filings_both = record { first = (refl, (refl, refl), refl); now = all_filings_is.asks }
+all_filings_both = record { now = all_filings_is; first = (_, refl, (refl, refl), refl) }
 
-pub file_by_number_both : AsksBoth file_by_number_text file_by_number_command
+pub file_by_number_both : IsSelectBoth FILE_BY_NUMBER.now file_by_number_query
 unfolding understood everything
-file_by_number_both = record { first = (refl, (refl, refl), refl); now = file_by_number_is.asks }
+file_by_number_both = record { now = file_by_number_is; first = (_, refl, (refl, refl), refl) }
 
-pub statements_of_filing_both : AsksBoth statements_of_filing_text statements_of_filing_command
+pub statements_of_filing_both : IsSelectBoth STATEMENTS_OF_FILING.now statements_of_filing_query
 unfolding understood everything
-statements_of_filing_both = record { first = (refl, (refl, refl), refl); now = statements_of_filing_is.asks }
+statements_of_filing_both = record { now = statements_of_filing_is; first = (_, refl, (refl, refl), refl) }
 
-pub interests_of_statement_both : AsksBoth interests_of_statement_text interests_of_statement_command
+pub interests_of_statement_both : IsSelectBoth INTERESTS_OF_STATEMENT.now interests_of_statement_query
 unfolding understood everything
-interests_of_statement_both = record { first = (refl, (refl, refl), refl); now = interests_of_statement_is.asks }
+interests_of_statement_both = record { now = interests_of_statement_is; first = (_, refl, (refl, refl), refl) }
 
-pub identifiers_of_statement_both : AsksBoth identifiers_of_statement_text identifiers_of_statement_command
+pub identifiers_of_statement_both : IsSelectBoth IDENTIFIERS_OF_STATEMENT.now identifiers_of_statement_query
 unfolding understood everything
-identifiers_of_statement_both = record { first = (refl, (refl, refl), refl); now = identifiers_of_statement_is.asks }
+identifiers_of_statement_both = record { now = identifiers_of_statement_is; first = (_, refl, (refl, refl), refl) }

@@ -8,38 +8,44 @@ use Rattle.sqlite_resolve.specs.Compile.{first, index_defined_by}
 use Rattle.sqlite_resolve.specs.declared.error.CompileError.{CompileError}
 use Rattle.sqlite_schema.specs.declared.schema.Index.{Index}
 use Rattle.sqlite_tied.specs.Compute.{everything}
-use Rattle.bor_store_sql.specs.Texts.Changes.{insert_register_text, insert_register_terms}
-use Rattle.bor_store_sql.specs.Texts.Tables.{register_table, filing_table, statement_table, identifier_table, record_index, subject_index, identifier_index, line_index}
+use Rattle.bor_store_sql.specs.Texts.Changes.{insert_register_terms}
+use Rattle.bor_store_sql.specs.declared.texts.changes.TheConstants.{INSERT_REGISTER}
+use Rattle.bor_store_sql.specs.Texts.Tables.{register_table, filing_table, statement_table, identifier_table, record_index, subject_index, identifier_index, line_index, agent_table, interest_table, period_table}
 use Rattle.bor_store_sql.specs.declared.texts.tables.TheConstants.{REGISTER_TABLE, AGENT_TABLE, FILING_TABLE, STATEMENT_TABLE, INTEREST_TABLE, IDENTIFIER_TABLE, PERIOD_TABLE, RECORD_INDEX, SUBJECT_INDEX, IDENTIFIER_INDEX, LINE_INDEX}
 use Rattle.bor_store_sql.proofs.AnySchema.{IsPutting, Indexes, Makes, Reads, untimed}
 
-pub register_reads : Reads Makes REGISTER_TABLE.now (first REGISTER_TABLE.now)
-unfolding everything
-register_reads = (refl, refl)
+-- The text makes this table.
+pub record IsTableText (text : List ℕ) (table : Table) : Type 0 where
+  pub reads : Reads Makes text (first text)
+  pub defined : table_defined_by text ≡ Ok table
 
-pub agent_reads : Reads Makes AGENT_TABLE.now (first AGENT_TABLE.now)
+pub register_table_text : IsTableText REGISTER_TABLE.now register_table
 unfolding everything
-agent_reads = (refl, refl)
+register_table_text = record { reads = ((_, refl, refl), refl); defined = refl }
 
-pub filing_reads : Reads Makes FILING_TABLE.now (first FILING_TABLE.now)
+pub agent_table_text : IsTableText AGENT_TABLE.now agent_table
 unfolding everything
-filing_reads = (refl, refl)
+agent_table_text = record { reads = ((_, refl, refl), refl); defined = refl }
 
-pub statement_reads : Reads Makes STATEMENT_TABLE.now (first STATEMENT_TABLE.now)
+pub filing_table_text : IsTableText FILING_TABLE.now filing_table
 unfolding everything
-statement_reads = (refl, refl)
+filing_table_text = record { reads = ((_, refl, refl), refl); defined = refl }
 
-pub interest_reads : Reads Makes INTEREST_TABLE.now (first INTEREST_TABLE.now)
+pub statement_table_text : IsTableText STATEMENT_TABLE.now statement_table
 unfolding everything
-interest_reads = (refl, refl)
+statement_table_text = record { reads = ((_, refl, refl), refl); defined = refl }
 
-pub identifier_reads : Reads Makes IDENTIFIER_TABLE.now (first IDENTIFIER_TABLE.now)
+pub interest_table_text : IsTableText INTEREST_TABLE.now interest_table
 unfolding everything
-identifier_reads = (refl, refl)
+interest_table_text = record { reads = ((_, refl, refl), refl); defined = refl }
 
-pub period_reads : Reads Makes PERIOD_TABLE.now (first PERIOD_TABLE.now)
+pub identifier_table_text : IsTableText IDENTIFIER_TABLE.now identifier_table
 unfolding everything
-period_reads = (refl, refl)
+identifier_table_text = record { reads = ((_, refl, refl), refl); defined = refl }
+
+pub period_table_text : IsTableText PERIOD_TABLE.now period_table
+unfolding everything
+period_table_text = record { reads = ((_, refl, refl), refl); defined = refl }
 
 -- the table has AUTOINCREMENT
 abbrev pub counted_in : Result Table CompileError → Bool
@@ -58,20 +64,20 @@ pub record IsIndexText (text : List ℕ) (table : Table) (index : Index) : Type 
 
 pub record_index_text : IsIndexText RECORD_INDEX.now statement_table record_index
 unfolding everything
-record_index_text = record { reads = ((refl, refl), refl); untimed = refl; defined = λ tree. refl }
+record_index_text = record { reads = ((_, refl, refl, refl), refl); untimed = refl; defined = λ tree. refl }
 
 pub subject_index_text : IsIndexText SUBJECT_INDEX.now statement_table subject_index
 unfolding everything
-subject_index_text = record { reads = ((refl, refl), refl); untimed = refl; defined = λ tree. refl }
+subject_index_text = record { reads = ((_, refl, refl, refl), refl); untimed = refl; defined = λ tree. refl }
 
 pub identifier_index_text : IsIndexText IDENTIFIER_INDEX.now identifier_table identifier_index
 unfolding everything
-identifier_index_text = record { reads = ((refl, refl), refl); untimed = refl; defined = λ tree. refl }
+identifier_index_text = record { reads = ((_, refl, refl, refl), refl); untimed = refl; defined = λ tree. refl }
 
 pub line_index_text : IsIndexText LINE_INDEX.now filing_table line_index
 unfolding everything
-line_index_text = record { reads = ((refl, refl), refl); untimed = refl; defined = λ tree. refl }
+line_index_text = record { reads = ((_, refl, refl, refl), refl); untimed = refl; defined = λ tree. refl }
 
-pub insert_register_reads : IsPutting register_table (Values insert_register_terms 5) (first insert_register_text)
+pub insert_register_reads : IsPutting register_table (Values insert_register_terms 5) (first INSERT_REGISTER.now)
 unfolding everything
-insert_register_reads = ((refl, λ schema tree. refl), refl)
+insert_register_reads = ((_, _, refl, λ schema tree. refl), refl)

@@ -1,25 +1,12 @@
--- The changes, and what they do.
+-- What each text of `texts::changes` does.
 use Rattle.std.specs.Prelude.{ℕ, pos, List, [], ◌∷◌}
 use Rattle.sqlite.specs.declared.types.Value.TheVariants.{Null, Int}
 use Rattle.sqlite.specs.Term.{Term, lit, col, op2}
 use Rattle.sqlite.specs.Collation.TheVariants.{Binary}
 use Rattle.sqlite_sql.specs.declared.ops.BinaryOp.TheVariants.{Compare}
 use Rattle.sqlite_sql.specs.declared.ops.CompareOp.TheVariants.{Eq}
-use Rattle.sqlite.specs.Command.{Command}
-use Rattle.sqlite.specs.Command.TheVariants.{Insert, Update, Delete}
-use Rattle.sqlite.specs.Source.TheVariants.{Values}
 use Rattle.sqlite_schema.specs.declared.program.Program.{Program}
 use Rattle.bor_store_sql.specs.Texts.Queries.{table_query, equals}
-use Rattle.bor_store_sql.specs.declared.texts.changes.TheConstants.{INSERT_REGISTER, INSERT_AGENT}
-use Rattle.bor_store_sql.specs.declared.texts.changes.TheConstants.{INSERT_FILING, INSERT_STATEMENT}
-use Rattle.bor_store_sql.specs.declared.texts.changes.TheConstants.{INSERT_INTEREST}
-use Rattle.bor_store_sql.specs.declared.texts.changes.TheConstants.{INSERT_IDENTIFIER}
-use Rattle.bor_store_sql.specs.declared.texts.changes.TheConstants.{DELETE_IDENTIFIERS}
-use Rattle.bor_store_sql.specs.declared.texts.changes.TheConstants.{DELETE_INTERESTS}
-use Rattle.bor_store_sql.specs.declared.texts.changes.TheConstants.{DELETE_STATEMENTS}
-use Rattle.bor_store_sql.specs.declared.texts.changes.TheConstants.{MARK_WITHDRAWN, UPDATE_DAY}
-use Rattle.bor_store_sql.specs.declared.texts.changes.TheConstants.{INSERT_PERIOD, DELETE_PERIODS}
-use Rattle.bor_store_sql.specs.declared.texts.changes.TheConstants.{UPDATE_TOKEN, UPDATE_VERSION}
 
 -- Columns are counted from 1, parameters from 0. An update gives the row's identity twice and then
 -- its columns, a deletion its identity.
@@ -28,97 +15,40 @@ use Rattle.bor_store_sql.specs.declared.texts.changes.TheConstants.{UPDATE_TOKEN
 abbrev pub equals_number : ℕ → ℕ → Term
 equals_number column n = op2 (Compare Eq Binary) (col 1 column) (lit (Int (pos n)))
 
-abbrev pub insert_register_text : List ℕ
-insert_register_text = INSERT_REGISTER.now
-
 abbrev pub insert_register_terms : List Term
 insert_register_terms = lit Null ∷ lit (Int (pos 1)) ∷ col 0 0 ∷ col 0 1 ∷ col 0 2 ∷ []
-
-abbrev pub insert_register_command : Command
-insert_register_command = Insert 0 (Values insert_register_terms 5)
-
-abbrev pub insert_agent_text : List ℕ
-insert_agent_text = INSERT_AGENT.now
 
 abbrev pub insert_agent_terms : List Term
 insert_agent_terms = lit Null ∷ col 0 0 ∷ col 0 1 ∷ []
 
-abbrev pub insert_agent_command : Command
-insert_agent_command = Insert 1 (Values insert_agent_terms 3)
-
-abbrev pub insert_filing_text : List ℕ
-insert_filing_text = INSERT_FILING.now
-
 abbrev pub insert_filing_terms : List Term
 insert_filing_terms =
     lit Null ∷ col 0 0 ∷ col 0 1 ∷ col 0 2 ∷ col 0 3 ∷ lit (Int (pos 0)) ∷ col 0 4 ∷ []
-
-abbrev pub insert_filing_command : Command
-insert_filing_command = Insert 2 (Values insert_filing_terms 7)
-
-abbrev pub insert_statement_text : List ℕ
-insert_statement_text = INSERT_STATEMENT.now
 
 abbrev pub insert_statement_terms : List Term
 insert_statement_terms =
     lit Null ∷ col 0 0 ∷ col 0 1 ∷ col 0 2 ∷ col 0 3 ∷ col 0 4 ∷ col 0 5 ∷ col 0 6 ∷ col 0 7
     ∷ col 0 8 ∷ col 0 9 ∷ col 0 10 ∷ col 0 11 ∷ col 0 12 ∷ []
 
-abbrev pub insert_statement_command : Command
-insert_statement_command = Insert 3 (Values insert_statement_terms 14)
-
-abbrev pub insert_interest_text : List ℕ
-insert_interest_text = INSERT_INTEREST.now
-
 abbrev pub insert_interest_terms : List Term
 insert_interest_terms =
     lit Null ∷ col 0 0 ∷ col 0 1 ∷ col 0 2 ∷ col 0 3 ∷ col 0 4 ∷ col 0 5 ∷ col 0 6 ∷ col 0 7
     ∷ col 0 8 ∷ col 0 9 ∷ []
 
-abbrev pub insert_interest_command : Command
-insert_interest_command = Insert 4 (Values insert_interest_terms 11)
-
-abbrev pub insert_identifier_text : List ℕ
-insert_identifier_text = INSERT_IDENTIFIER.now
-
 abbrev pub insert_identifier_terms : List Term
 insert_identifier_terms = lit Null ∷ col 0 0 ∷ col 0 1 ∷ col 0 2 ∷ col 0 3 ∷ col 0 4 ∷ col 0 5 ∷ []
-
-abbrev pub insert_identifier_command : Command
-insert_identifier_command = Insert 5 (Values insert_identifier_terms 7)
-
-abbrev pub delete_identifiers_text : List ℕ
-delete_identifiers_text = DELETE_IDENTIFIERS.now
 
 abbrev pub delete_identifiers_program : Program
 delete_identifiers_program =
     record { lets = []; body = table_query 13 (equals 1 0 ∷ equals 2 1 ∷ []) (col 1 0 ∷ []) [] }
 
-abbrev pub delete_identifiers_command : Command
-delete_identifiers_command = Delete 5 delete_identifiers_program
-
-abbrev pub delete_interests_text : List ℕ
-delete_interests_text = DELETE_INTERESTS.now
-
 abbrev pub delete_interests_program : Program
 delete_interests_program =
     record { lets = []; body = table_query 11 (equals 1 0 ∷ equals 2 1 ∷ []) (col 1 0 ∷ []) [] }
 
-abbrev pub delete_interests_command : Command
-delete_interests_command = Delete 4 delete_interests_program
-
-abbrev pub delete_statements_text : List ℕ
-delete_statements_text = DELETE_STATEMENTS.now
-
 abbrev pub delete_statements_program : Program
 delete_statements_program =
     record { lets = []; body = table_query 8 (equals 1 0 ∷ equals 2 1 ∷ []) (col 1 0 ∷ []) [] }
-
-abbrev pub delete_statements_command : Command
-delete_statements_command = Delete 3 delete_statements_program
-
-abbrev pub mark_withdrawn_text : List ℕ
-mark_withdrawn_text = MARK_WITHDRAWN.now
 
 abbrev pub mark_withdrawn_program : Program
 mark_withdrawn_program =
@@ -128,24 +58,12 @@ mark_withdrawn_program =
           ∷ col 1 1 ∷ col 1 2 ∷ col 1 3 ∷ col 1 4 ∷ lit (Int (pos 1)) ∷ col 1 6 ∷ []) [];
     }
 
-abbrev pub mark_withdrawn_command : Command
-mark_withdrawn_command = Update 2 mark_withdrawn_program
-
-abbrev pub update_token_text : List ℕ
-update_token_text = UPDATE_TOKEN.now
-
 abbrev pub update_token_program : Program
 update_token_program =
     record {
       lets = [];
       body = table_query 2 (equals 1 0 ∷ []) (col 1 0 ∷ col 1 0 ∷ col 1 1 ∷ col 0 1 ∷ []) [];
     }
-
-abbrev pub update_token_command : Command
-update_token_command = Update 1 update_token_program
-
-abbrev pub update_day_text : List ℕ
-update_day_text = UPDATE_DAY.now
 
 abbrev pub update_day_program : Program
 update_day_program =
@@ -155,30 +73,12 @@ update_day_program =
           (col 1 0 ∷ col 1 0 ∷ col 1 1 ∷ col 1 2 ∷ col 0 0 ∷ col 1 4 ∷ []) [];
     }
 
-abbrev pub update_day_command : Command
-update_day_command = Update 0 update_day_program
-
-abbrev pub insert_period_text : List ℕ
-insert_period_text = INSERT_PERIOD.now
-
 abbrev pub insert_period_terms : List Term
 insert_period_terms = lit Null ∷ col 0 0 ∷ col 0 1 ∷ col 0 2 ∷ col 0 3 ∷ col 0 4 ∷ col 0 5 ∷ []
-
-abbrev pub insert_period_command : Command
-insert_period_command = Insert 6 (Values insert_period_terms 7)
-
-abbrev pub delete_periods_text : List ℕ
-delete_periods_text = DELETE_PERIODS.now
 
 abbrev pub delete_periods_program : Program
 delete_periods_program =
     record { lets = []; body = table_query 19 (equals 1 0 ∷ equals 2 1 ∷ []) (col 1 0 ∷ []) [] }
-
-abbrev pub delete_periods_command : Command
-delete_periods_command = Delete 6 delete_periods_program
-
-abbrev pub update_version_text : List ℕ
-update_version_text = UPDATE_VERSION.now
 
 abbrev pub update_version_program : Program
 update_version_program =
@@ -187,6 +87,3 @@ update_version_program =
       body = table_query 0 (equals_number 1 1 ∷ [])
           (col 1 0 ∷ col 1 0 ∷ col 1 1 ∷ col 0 0 ∷ col 1 3 ∷ col 1 4 ∷ []) [];
     }
-
-abbrev pub update_version_command : Command
-update_version_command = Update 0 update_version_program

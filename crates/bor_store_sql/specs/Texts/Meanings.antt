@@ -1,45 +1,24 @@
 -- How a text means a command, under the schema of the register's tables.
-use Rattle.std.specs.Prelude.{◌≡◌, ℕ, List, false, Ok}
+use Rattle.std.specs.Prelude.{◌≡◌, ℕ, List, false}
 use Rattle.sqlite.specs.Command.{Command}
-use Rattle.sqlite.specs.Command.TheVariants.{CreateTable, CreateIndex}
-use Rattle.sqlite.specs.Compile.{table_defined_by}
 use Rattle.sqlite.specs.Listing.{understood, reads_listing}
 use Rattle.sqlite.specs.Schema.{Schema}
-use Rattle.sqlite.specs.Table.{Table}
-use Rattle.sqlite.proofs.Callers.{IsPlain, command_of, statement_of}
-use Rattle.sqlite_resolve.specs.Compile.{index_defined_by}
-use Rattle.sqlite_schema.specs.declared.schema.Index.{Index}
-use Rattle.bor_store_sql.specs.Texts.Tables.{first_schema, keep_schema}
+use Rattle.sqlite.proofs.Callers.{IsPlain, command_of}
+use Rattle.bor_store_sql.specs.Texts.Tables.{keep_schema}
+use Rattle.sqlite.specs.Query.{Query}
+use Rattle.bor_store_sql.specs.Texts.Queries.{shows_rows}
 
--- under a schema the text is one query, and this one; it reads no list of the schema
-abbrev pub AsksIn : Schema → List ℕ → Command → Type 0
-AsksIn schema text command =
-    (command_of (understood schema text) ≡ command) × IsPlain (understood schema text)
-    × (reads_listing schema text ≡ false)
+-- under a schema the text is one query, and this one, under whatever names; it reads no list of the
+-- schema
+abbrev pub AsksIn : Schema → List ℕ → Query → Type 0
+AsksIn schema text query =
+    (names : List (List ℕ)) × (command_of (understood schema text) ≡ shows_rows query names)
+    × IsPlain (understood schema text) × (reads_listing schema text ≡ false)
 
-abbrev pub Asks : List ℕ → Command → Type 0
-Asks text command = AsksIn keep_schema text command
-
--- the text means the command under the schema of version 1 too
-pub record AsksBoth (text : List ℕ) (command : Command) : Type 0 where
-  pub first : AsksIn first_schema text command
-  pub now : AsksIn keep_schema text command
+abbrev pub Asks : List ℕ → Query → Type 0
+Asks text query = AsksIn keep_schema text query
 
 -- the text is one change, and this one
 abbrev pub Does : List ℕ → Command → Type 0
 Does text command =
     (command_of (understood keep_schema text) ≡ command) × IsPlain (understood keep_schema text)
-
--- under a schema the text makes this table, and nothing else
-abbrev pub MakesTable : Schema → List ℕ → Table → Type 0
-MakesTable schema text table =
-    (command_of (understood schema text) ≡ CreateTable)
-    × (statement_of text (understood schema text) ≡ text) × IsPlain (understood schema text)
-    × (table_defined_by text ≡ Ok table)
-
--- under a schema the text makes this index of the table that is counted so, and nothing else
-abbrev pub MakesIndex : Schema → ℕ → Table → List ℕ → Index → Type 0
-MakesIndex schema at table text index =
-    (command_of (understood schema text) ≡ CreateIndex at)
-    × (statement_of text (understood schema text) ≡ text) × IsPlain (understood schema text)
-    × (index_defined_by table text ≡ Ok index)

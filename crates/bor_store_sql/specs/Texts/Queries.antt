@@ -1,5 +1,5 @@
--- The queries, and what they ask for.
-use Rattle.std.specs.Prelude.{ℕ, pos, negsuc, List, [], ◌∷◌, codes, None, true, false}
+-- What each text of `texts::queries` asks for.
+use Rattle.std.specs.Prelude.{ℕ, pos, negsuc, List, [], ◌∷◌, None, true, false}
 use Rattle.sqlite.specs.declared.types.Value.TheVariants.{Int}
 use Rattle.sqlite.specs.Term.{Term, lit, col, op2}
 use Rattle.sqlite.specs.Query.{Query, inner, end}
@@ -10,26 +10,6 @@ use Rattle.sqlite.specs.Command.{Command}
 use Rattle.sqlite.specs.Command.TheVariants.{Select}
 use Rattle.sqlite_sql.specs.declared.ops.BinaryOp.TheVariants.{Compare}
 use Rattle.sqlite_sql.specs.declared.ops.CompareOp.TheVariants.{Eq}
-use Rattle.bor_store_sql.specs.declared.texts.queries.TheConstants.{ALL_REGISTER, ALL_AGENTS}
-use Rattle.bor_store_sql.specs.declared.texts.queries.TheConstants.{ALL_FILINGS, ALL_STATEMENTS}
-use Rattle.bor_store_sql.specs.declared.texts.queries.TheConstants.{ALL_INTERESTS, ALL_IDENTIFIERS}
-use Rattle.bor_store_sql.specs.declared.texts.queries.TheConstants.{AGENT_BY_NAME, AGENT_BY_TOKEN}
-use Rattle.bor_store_sql.specs.declared.texts.queries.TheConstants.{FILING_BY_KEY, LINE_BY_KEY}
-use Rattle.bor_store_sql.specs.declared.texts.queries.TheConstants.{LINE_BY_NUMBER, SAME_BYTES}
-use Rattle.bor_store_sql.specs.declared.texts.queries.TheConstants.{FILINGS_OF_AGENT, LAST_FILING}
-use Rattle.bor_store_sql.specs.declared.texts.queries.TheConstants.{LAST_OF_SERIES, STATEMENT_BY_ID}
-use Rattle.bor_store_sql.specs.declared.texts.queries.TheConstants.{STATEMENTS_OF_FILING}
-use Rattle.bor_store_sql.specs.declared.texts.queries.TheConstants.{STATEMENTS_OF_DECLARATION}
-use Rattle.bor_store_sql.specs.declared.texts.queries.TheConstants.{INTERESTS_OF_STATEMENT}
-use Rattle.bor_store_sql.specs.declared.texts.queries.TheConstants.{IDENTIFIERS_OF_STATEMENT}
-use Rattle.bor_store_sql.specs.declared.texts.queries.TheConstants.{MORE_STATEMENTS}
-use Rattle.bor_store_sql.specs.declared.texts.queries.TheConstants.{STATEMENTS_OF_SERIES}
-use Rattle.bor_store_sql.specs.declared.texts.queries.TheConstants.{STATEMENTS_OF_RECORD}
-use Rattle.bor_store_sql.specs.declared.texts.queries.TheConstants.{STATEMENTS_OF_SUBJECT}
-use Rattle.bor_store_sql.specs.declared.texts.queries.TheConstants.{STATEMENT_BY_PLACE}
-use Rattle.bor_store_sql.specs.declared.texts.queries.TheConstants.{IDENTIFIERS_BY_ID, ALL_PERIODS}
-use Rattle.bor_store_sql.specs.declared.texts.queries.TheConstants.{PERIODS_OF_STATEMENT}
-use Rattle.bor_store_sql.specs.declared.texts.queries.TheConstants.{FILE_BY_NUMBER}
 
 -- Columns are counted from 1, parameters from 0.
 
@@ -74,41 +54,16 @@ later_query t tests project parameter =
 abbrev pub shows_rows : Query → List (List ℕ) → Command
 shows_rows query names = Select (record { lets = []; body = query }) names
 
-abbrev pub all_register_text : List ℕ
-all_register_text = ALL_REGISTER.now
-
 abbrev pub all_register_query : Query
 all_register_query = table_query 0 ([]) (col 1 1 ∷ col 1 2 ∷ col 1 3 ∷ col 1 4 ∷ []) (rising 1 ∷ [])
 
-abbrev pub all_register_command : Command
-all_register_command =
-    shows_rows all_register_query
-    (codes "one" ∷ codes "version" ∷ codes "day" ∷ codes "registrar" ∷ [])
-
-abbrev pub all_agents_text : List ℕ
-all_agents_text = ALL_AGENTS.now
-
 abbrev pub all_agents_query : Query
 all_agents_query = table_query 2 ([]) (col 1 1 ∷ col 1 2 ∷ []) (rising 1 ∷ [])
-
-abbrev pub all_agents_command : Command
-all_agents_command = shows_rows all_agents_query (codes "name" ∷ codes "token" ∷ [])
-
-abbrev pub all_filings_text : List ℕ
-all_filings_text = ALL_FILINGS.now
 
 abbrev pub all_filings_query : Query
 all_filings_query =
     table_query 5 ([]) (col 1 1 ∷ col 1 2 ∷ col 1 3 ∷ col 1 4 ∷ col 1 5 ∷ [])
     (rising 1 ∷ rising 2 ∷ [])
-
-abbrev pub all_filings_command : Command
-all_filings_command =
-    shows_rows all_filings_query
-    (codes "agent" ∷ codes "number" ∷ codes "lodge_key" ∷ codes "due" ∷ codes "withdrawn" ∷ [])
-
-abbrev pub all_statements_text : List ℕ
-all_statements_text = ALL_STATEMENTS.now
 
 abbrev pub all_statements_query : Query
 all_statements_query =
@@ -116,134 +71,50 @@ all_statements_query =
     ∷ col 1 8 ∷ col 1 9 ∷ col 1 10 ∷ col 1 11 ∷ col 1 12 ∷ col 1 13 ∷ [])
     (rising 1 ∷ rising 2 ∷ rising 3 ∷ [])
 
-abbrev pub all_statements_command : Command
-all_statements_command =
-    shows_rows all_statements_query (codes "agent" ∷ codes "filing" ∷ codes "place" ∷ codes "id"
-    ∷ codes "day" ∷ codes "declaration" ∷ codes "rec" ∷ codes "kind" ∷ codes "status"
-    ∷ codes "sub_kind" ∷ codes "name" ∷ codes "subject" ∷ codes "party" ∷ [])
-
-abbrev pub all_interests_text : List ℕ
-all_interests_text = ALL_INTERESTS.now
-
 abbrev pub all_interests_query : Query
 all_interests_query =
     table_query 11 ([]) (col 1 1 ∷ col 1 2 ∷ col 1 3 ∷ col 1 4 ∷ col 1 5 ∷ col 1 6 ∷ col 1 7
     ∷ col 1 8 ∷ col 1 9 ∷ col 1 10 ∷ []) (rising 1 ∷ rising 2 ∷ rising 3 ∷ rising 4 ∷ [])
-
-abbrev pub all_interests_command : Command
-all_interests_command =
-    shows_rows all_interests_query
-    (codes "agent" ∷ codes "filing" ∷ codes "place" ∷ codes "item" ∷ codes "kind"
-    ∷ codes "directness" ∷ codes "low" ∷ codes "low_open" ∷ codes "high" ∷ codes "high_open" ∷ [])
-
-abbrev pub all_identifiers_text : List ℕ
-all_identifiers_text = ALL_IDENTIFIERS.now
 
 abbrev pub all_identifiers_query : Query
 all_identifiers_query =
     table_query 13 ([]) (col 1 1 ∷ col 1 2 ∷ col 1 3 ∷ col 1 4 ∷ col 1 5 ∷ col 1 6 ∷ [])
     (rising 1 ∷ rising 2 ∷ rising 3 ∷ rising 4 ∷ [])
 
-abbrev pub all_identifiers_command : Command
-all_identifiers_command =
-    shows_rows all_identifiers_query (codes "agent" ∷ codes "filing" ∷ codes "place" ∷ codes "item"
-    ∷ codes "scheme" ∷ codes "id" ∷ [])
-
-abbrev pub agent_by_name_text : List ℕ
-agent_by_name_text = AGENT_BY_NAME.now
-
 abbrev pub agent_by_name_query : Query
 agent_by_name_query = table_query 2 (equals 1 0 ∷ []) (col 1 1 ∷ col 1 2 ∷ []) (rising 1 ∷ [])
 
-abbrev pub agent_by_name_command : Command
-agent_by_name_command = shows_rows agent_by_name_query (codes "name" ∷ codes "token" ∷ [])
-
-abbrev pub agent_by_token_text : List ℕ
-agent_by_token_text = AGENT_BY_TOKEN.now
-
 abbrev pub agent_by_token_query : Query
 agent_by_token_query = table_query 2 (equals 2 0 ∷ []) (col 1 1 ∷ col 1 2 ∷ []) (rising 1 ∷ [])
-
-abbrev pub agent_by_token_command : Command
-agent_by_token_command = shows_rows agent_by_token_query (codes "name" ∷ codes "token" ∷ [])
-
-abbrev pub filing_by_key_text : List ℕ
-filing_by_key_text = FILING_BY_KEY.now
 
 abbrev pub filing_by_key_query : Query
 filing_by_key_query =
     table_query 5 (equals 1 0 ∷ equals 3 1 ∷ []) (col 1 2 ∷ col 1 4 ∷ col 1 5 ∷ col 1 6 ∷ [])
     (rising 1 ∷ rising 2 ∷ [])
 
-abbrev pub filing_by_key_command : Command
-filing_by_key_command =
-    shows_rows filing_by_key_query
-    (codes "number" ∷ codes "due" ∷ codes "withdrawn" ∷ codes "bytes" ∷ [])
-
-abbrev pub line_by_key_text : List ℕ
-line_by_key_text = LINE_BY_KEY.now
-
 abbrev pub line_by_key_query : Query
 line_by_key_query =
     table_query 5 (equals 1 0 ∷ equals 3 1 ∷ [])
     (col 1 1 ∷ col 1 2 ∷ col 1 3 ∷ col 1 4 ∷ col 1 5 ∷ []) (rising 1 ∷ rising 2 ∷ [])
-
-abbrev pub line_by_key_command : Command
-line_by_key_command =
-    shows_rows line_by_key_query
-    (codes "agent" ∷ codes "number" ∷ codes "lodge_key" ∷ codes "due" ∷ codes "withdrawn" ∷ [])
-
-abbrev pub line_by_number_text : List ℕ
-line_by_number_text = LINE_BY_NUMBER.now
 
 abbrev pub line_by_number_query : Query
 line_by_number_query =
     table_query 5 (equals 1 0 ∷ equals 2 1 ∷ [])
     (col 1 1 ∷ col 1 2 ∷ col 1 3 ∷ col 1 4 ∷ col 1 5 ∷ []) (rising 1 ∷ rising 2 ∷ [])
 
-abbrev pub line_by_number_command : Command
-line_by_number_command =
-    shows_rows line_by_number_query
-    (codes "agent" ∷ codes "number" ∷ codes "lodge_key" ∷ codes "due" ∷ codes "withdrawn" ∷ [])
-
-abbrev pub same_bytes_text : List ℕ
-same_bytes_text = SAME_BYTES.now
-
 abbrev pub same_bytes_query : Query
 same_bytes_query =
     table_query 5 (equals 1 0 ∷ equals 3 1 ∷ []) (equals 6 2 ∷ []) (rising 1 ∷ rising 2 ∷ [])
-
-abbrev pub same_bytes_command : Command
-same_bytes_command = shows_rows same_bytes_query (codes "bytes = ?3" ∷ [])
-
-abbrev pub filings_of_agent_text : List ℕ
-filings_of_agent_text = FILINGS_OF_AGENT.now
 
 abbrev pub filings_of_agent_query : Query
 filings_of_agent_query =
     table_query 5 (equals 1 0 ∷ []) (col 1 1 ∷ col 1 2 ∷ col 1 3 ∷ col 1 4 ∷ col 1 5 ∷ [])
     (rising 1 ∷ rising 2 ∷ [])
 
-abbrev pub filings_of_agent_command : Command
-filings_of_agent_command =
-    shows_rows filings_of_agent_query
-    (codes "agent" ∷ codes "number" ∷ codes "lodge_key" ∷ codes "due" ∷ codes "withdrawn" ∷ [])
-
-abbrev pub last_filing_text : List ℕ
-last_filing_text = LAST_FILING.now
-
 abbrev pub last_filing_query : Query
 last_filing_query =
     first_query 5 (equals 1 0 ∷ []) (col 1 1 ∷ col 1 2 ∷ col 1 3 ∷ col 1 4 ∷ col 1 5 ∷ [])
     (falling 2 ∷ [])
-
-abbrev pub last_filing_command : Command
-last_filing_command =
-    shows_rows last_filing_query
-    (codes "agent" ∷ codes "number" ∷ codes "lodge_key" ∷ codes "due" ∷ codes "withdrawn" ∷ [])
-
-abbrev pub last_of_series_text : List ℕ
-last_of_series_text = LAST_OF_SERIES.now
 
 abbrev pub last_of_series_query : Query
 last_of_series_query =
@@ -251,25 +122,10 @@ last_of_series_query =
     (col 1 1 ∷ col 1 2 ∷ col 1 3 ∷ col 1 4 ∷ col 1 5 ∷ col 1 6 ∷ col 1 7 ∷ col 1 8 ∷ col 1 9
     ∷ col 1 10 ∷ col 1 11 ∷ col 1 12 ∷ col 1 13 ∷ []) (falling 2 ∷ falling 3 ∷ [])
 
-abbrev pub last_of_series_command : Command
-last_of_series_command =
-    shows_rows last_of_series_query (codes "agent" ∷ codes "filing" ∷ codes "place" ∷ codes "id"
-    ∷ codes "day" ∷ codes "declaration" ∷ codes "rec" ∷ codes "kind" ∷ codes "status"
-    ∷ codes "sub_kind" ∷ codes "name" ∷ codes "subject" ∷ codes "party" ∷ [])
-
-abbrev pub statement_by_id_text : List ℕ
-statement_by_id_text = STATEMENT_BY_ID.now
-
 abbrev pub statement_by_id_query : Query
 statement_by_id_query =
     table_query 8 (equals 1 0 ∷ equals 4 1 ∷ []) (col 1 2 ∷ col 1 3 ∷ [])
     (rising 1 ∷ rising 2 ∷ rising 3 ∷ [])
-
-abbrev pub statement_by_id_command : Command
-statement_by_id_command = shows_rows statement_by_id_query (codes "filing" ∷ codes "place" ∷ [])
-
-abbrev pub statements_of_filing_text : List ℕ
-statements_of_filing_text = STATEMENTS_OF_FILING.now
 
 abbrev pub statements_of_filing_query : Query
 statements_of_filing_query =
@@ -277,29 +133,11 @@ statements_of_filing_query =
     ∷ col 1 6 ∷ col 1 7 ∷ col 1 8 ∷ col 1 9 ∷ col 1 10 ∷ col 1 11 ∷ col 1 12 ∷ col 1 13 ∷ [])
     (rising 1 ∷ rising 2 ∷ rising 3 ∷ [])
 
-abbrev pub statements_of_filing_command : Command
-statements_of_filing_command =
-    shows_rows statements_of_filing_query (codes "agent" ∷ codes "filing" ∷ codes "place"
-    ∷ codes "id" ∷ codes "day" ∷ codes "declaration" ∷ codes "rec" ∷ codes "kind" ∷ codes "status"
-    ∷ codes "sub_kind" ∷ codes "name" ∷ codes "subject" ∷ codes "party" ∷ [])
-
-abbrev pub statements_of_declaration_text : List ℕ
-statements_of_declaration_text = STATEMENTS_OF_DECLARATION.now
-
 abbrev pub statements_of_declaration_query : Query
 statements_of_declaration_query =
     table_query 8 (equals 1 0 ∷ equals 6 1 ∷ []) (col 1 1 ∷ col 1 2 ∷ col 1 3 ∷ col 1 4 ∷ col 1 5
     ∷ col 1 6 ∷ col 1 7 ∷ col 1 8 ∷ col 1 9 ∷ col 1 10 ∷ col 1 11 ∷ col 1 12 ∷ col 1 13 ∷ [])
     (rising 1 ∷ rising 2 ∷ rising 3 ∷ [])
-
-abbrev pub statements_of_declaration_command : Command
-statements_of_declaration_command =
-    shows_rows statements_of_declaration_query (codes "agent" ∷ codes "filing" ∷ codes "place"
-    ∷ codes "id" ∷ codes "day" ∷ codes "declaration" ∷ codes "rec" ∷ codes "kind" ∷ codes "status"
-    ∷ codes "sub_kind" ∷ codes "name" ∷ codes "subject" ∷ codes "party" ∷ [])
-
-abbrev pub interests_of_statement_text : List ℕ
-interests_of_statement_text = INTERESTS_OF_STATEMENT.now
 
 abbrev pub interests_of_statement_query : Query
 interests_of_statement_query =
@@ -307,36 +145,13 @@ interests_of_statement_query =
     ∷ col 1 4 ∷ col 1 5 ∷ col 1 6 ∷ col 1 7 ∷ col 1 8 ∷ col 1 9 ∷ col 1 10 ∷ [])
     (rising 1 ∷ rising 2 ∷ rising 3 ∷ rising 4 ∷ [])
 
-abbrev pub interests_of_statement_command : Command
-interests_of_statement_command =
-    shows_rows interests_of_statement_query
-    (codes "agent" ∷ codes "filing" ∷ codes "place" ∷ codes "item" ∷ codes "kind"
-    ∷ codes "directness" ∷ codes "low" ∷ codes "low_open" ∷ codes "high" ∷ codes "high_open" ∷ [])
-
-abbrev pub identifiers_of_statement_text : List ℕ
-identifiers_of_statement_text = IDENTIFIERS_OF_STATEMENT.now
-
 abbrev pub identifiers_of_statement_query : Query
 identifiers_of_statement_query =
     table_query 13 (equals 1 0 ∷ equals 2 1 ∷ equals 3 2 ∷ []) (col 1 1 ∷ col 1 2 ∷ col 1 3
     ∷ col 1 4 ∷ col 1 5 ∷ col 1 6 ∷ []) (rising 1 ∷ rising 2 ∷ rising 3 ∷ rising 4 ∷ [])
 
-abbrev pub identifiers_of_statement_command : Command
-identifiers_of_statement_command =
-    shows_rows identifiers_of_statement_query (codes "agent" ∷ codes "filing" ∷ codes "place"
-    ∷ codes "item" ∷ codes "scheme" ∷ codes "id" ∷ [])
-
-abbrev pub more_statements_text : List ℕ
-more_statements_text = MORE_STATEMENTS.now
-
 abbrev pub more_statements_query : Query
 more_statements_query = later_query 8 [] (lit (Int (pos 1)) ∷ []) 0
-
-abbrev pub more_statements_command : Command
-more_statements_command = shows_rows more_statements_query (codes "1" ∷ [])
-
-abbrev pub statements_of_series_text : List ℕ
-statements_of_series_text = STATEMENTS_OF_SERIES.now
 
 abbrev pub statements_of_series_query : Query
 statements_of_series_query =
@@ -344,29 +159,11 @@ statements_of_series_query =
     (col 1 1 ∷ col 1 2 ∷ col 1 3 ∷ col 1 4 ∷ col 1 5 ∷ col 1 6 ∷ col 1 7 ∷ col 1 8 ∷ col 1 9
     ∷ col 1 10 ∷ col 1 11 ∷ col 1 12 ∷ col 1 13 ∷ []) (rising 1 ∷ rising 2 ∷ rising 3 ∷ [])
 
-abbrev pub statements_of_series_command : Command
-statements_of_series_command =
-    shows_rows statements_of_series_query (codes "agent" ∷ codes "filing" ∷ codes "place"
-    ∷ codes "id" ∷ codes "day" ∷ codes "declaration" ∷ codes "rec" ∷ codes "kind" ∷ codes "status"
-    ∷ codes "sub_kind" ∷ codes "name" ∷ codes "subject" ∷ codes "party" ∷ [])
-
-abbrev pub statements_of_record_text : List ℕ
-statements_of_record_text = STATEMENTS_OF_RECORD.now
-
 abbrev pub statements_of_record_query : Query
 statements_of_record_query =
     table_query 8 (equals 1 0 ∷ equals 7 1 ∷ []) (col 1 1 ∷ col 1 2 ∷ col 1 3 ∷ col 1 4 ∷ col 1 5
     ∷ col 1 6 ∷ col 1 7 ∷ col 1 8 ∷ col 1 9 ∷ col 1 10 ∷ col 1 11 ∷ col 1 12 ∷ col 1 13 ∷ [])
     (rising 1 ∷ rising 2 ∷ rising 3 ∷ [])
-
-abbrev pub statements_of_record_command : Command
-statements_of_record_command =
-    shows_rows statements_of_record_query (codes "agent" ∷ codes "filing" ∷ codes "place"
-    ∷ codes "id" ∷ codes "day" ∷ codes "declaration" ∷ codes "rec" ∷ codes "kind" ∷ codes "status"
-    ∷ codes "sub_kind" ∷ codes "name" ∷ codes "subject" ∷ codes "party" ∷ [])
-
-abbrev pub statements_of_subject_text : List ℕ
-statements_of_subject_text = STATEMENTS_OF_SUBJECT.now
 
 abbrev pub statements_of_subject_query : Query
 statements_of_subject_query =
@@ -374,75 +171,28 @@ statements_of_subject_query =
     (col 1 1 ∷ col 1 2 ∷ col 1 3 ∷ col 1 4 ∷ col 1 5 ∷ col 1 6 ∷ col 1 7 ∷ col 1 8 ∷ col 1 9
     ∷ col 1 10 ∷ col 1 11 ∷ col 1 12 ∷ col 1 13 ∷ []) (rising 1 ∷ rising 2 ∷ rising 3 ∷ [])
 
-abbrev pub statements_of_subject_command : Command
-statements_of_subject_command =
-    shows_rows statements_of_subject_query (codes "agent" ∷ codes "filing" ∷ codes "place"
-    ∷ codes "id" ∷ codes "day" ∷ codes "declaration" ∷ codes "rec" ∷ codes "kind" ∷ codes "status"
-    ∷ codes "sub_kind" ∷ codes "name" ∷ codes "subject" ∷ codes "party" ∷ [])
-
-abbrev pub statement_by_place_text : List ℕ
-statement_by_place_text = STATEMENT_BY_PLACE.now
-
 abbrev pub statement_by_place_query : Query
 statement_by_place_query =
     table_query 8 (equals 1 0 ∷ equals 2 1 ∷ equals 3 2 ∷ [])
     (col 1 1 ∷ col 1 2 ∷ col 1 3 ∷ col 1 4 ∷ col 1 5 ∷ col 1 6 ∷ col 1 7 ∷ col 1 8 ∷ col 1 9
     ∷ col 1 10 ∷ col 1 11 ∷ col 1 12 ∷ col 1 13 ∷ []) (rising 1 ∷ rising 2 ∷ rising 3 ∷ [])
 
-abbrev pub statement_by_place_command : Command
-statement_by_place_command =
-    shows_rows statement_by_place_query (codes "agent" ∷ codes "filing" ∷ codes "place" ∷ codes "id"
-    ∷ codes "day" ∷ codes "declaration" ∷ codes "rec" ∷ codes "kind" ∷ codes "status"
-    ∷ codes "sub_kind" ∷ codes "name" ∷ codes "subject" ∷ codes "party" ∷ [])
-
-abbrev pub identifiers_by_id_text : List ℕ
-identifiers_by_id_text = IDENTIFIERS_BY_ID.now
-
 abbrev pub identifiers_by_id_query : Query
 identifiers_by_id_query =
     table_query 13 (equals 5 0 ∷ equals 6 1 ∷ []) (col 1 1 ∷ col 1 2 ∷ col 1 3 ∷ col 1 4 ∷ col 1 5
     ∷ col 1 6 ∷ []) (rising 1 ∷ rising 2 ∷ rising 3 ∷ rising 4 ∷ [])
-
-abbrev pub identifiers_by_id_command : Command
-identifiers_by_id_command =
-    shows_rows identifiers_by_id_query (codes "agent" ∷ codes "filing" ∷ codes "place"
-    ∷ codes "item" ∷ codes "scheme" ∷ codes "id" ∷ [])
-
-abbrev pub all_periods_text : List ℕ
-all_periods_text = ALL_PERIODS.now
 
 abbrev pub all_periods_query : Query
 all_periods_query =
     table_query 19 ([]) (col 1 1 ∷ col 1 2 ∷ col 1 3 ∷ col 1 4 ∷ col 1 5 ∷ col 1 6 ∷ [])
     (rising 1 ∷ rising 2 ∷ rising 3 ∷ rising 4 ∷ [])
 
-abbrev pub all_periods_command : Command
-all_periods_command =
-    shows_rows all_periods_query (codes "agent" ∷ codes "filing" ∷ codes "place" ∷ codes "item"
-    ∷ codes "starts" ∷ codes "ends" ∷ [])
-
-abbrev pub periods_of_statement_text : List ℕ
-periods_of_statement_text = PERIODS_OF_STATEMENT.now
-
 abbrev pub periods_of_statement_query : Query
 periods_of_statement_query =
     table_query 19 (equals 1 0 ∷ equals 2 1 ∷ equals 3 2 ∷ []) (col 1 1 ∷ col 1 2 ∷ col 1 3
     ∷ col 1 4 ∷ col 1 5 ∷ col 1 6 ∷ []) (rising 1 ∷ rising 2 ∷ rising 3 ∷ rising 4 ∷ [])
 
-abbrev pub periods_of_statement_command : Command
-periods_of_statement_command =
-    shows_rows periods_of_statement_query (codes "agent" ∷ codes "filing" ∷ codes "place"
-    ∷ codes "item" ∷ codes "starts" ∷ codes "ends" ∷ [])
-
-abbrev pub file_by_number_text : List ℕ
-file_by_number_text = FILE_BY_NUMBER.now
-
 abbrev pub file_by_number_query : Query
 file_by_number_query =
     table_query 5 (equals 1 0 ∷ equals 2 1 ∷ []) (col 1 2 ∷ col 1 4 ∷ col 1 5 ∷ col 1 6 ∷ [])
     (rising 1 ∷ rising 2 ∷ [])
-
-abbrev pub file_by_number_command : Command
-file_by_number_command =
-    shows_rows file_by_number_query
-    (codes "number" ∷ codes "due" ∷ codes "withdrawn" ∷ codes "bytes" ∷ [])

@@ -230,41 +230,22 @@ identifier_index = plain_index 13 (codes "identifier_id") (5 ∷ 6 ∷ [])
 abbrev pub line_index : Index
 line_index = plain_index 5 (codes "filing_line") (1 ∷ 2 ∷ 3 ∷ 4 ∷ 5 ∷ [])
 
--- ---- the schema, statement by statement
+-- ---- the schema, as the statements make it one after the other
 
 abbrev pub no_schema : Schema
 no_schema = record { tables = []; indexes = []; views = [] }
 
-abbrev pub schema_1 : Schema
-schema_1 = created no_schema register_table
-
-abbrev pub schema_2 : Schema
-schema_2 = created schema_1 agent_table
-
-abbrev pub schema_3 : Schema
-schema_3 = created schema_2 filing_table
-
-abbrev pub schema_4 : Schema
-schema_4 = created schema_3 statement_table
-
-abbrev pub schema_5 : Schema
-schema_5 = created schema_4 interest_table
-
-abbrev pub schema_6 : Schema
-schema_6 = created schema_5 identifier_table
-
-abbrev pub schema_7 : Schema
-schema_7 = indexed schema_6 statement_at record_index
-
-abbrev pub schema_8 : Schema
-schema_8 = indexed schema_7 statement_at subject_index
-
-abbrev pub schema_9 : Schema
-schema_9 = indexed schema_8 identifier_at identifier_index
+-- the six tables of version 1
+abbrev pub first_tables : Schema
+first_tables =
+    created (created (created (created (created (created no_schema register_table) agent_table)
+    filing_table) statement_table) interest_table) identifier_table
 
 -- the tables and indexes of a register in version 1
 abbrev pub first_schema : Schema
-first_schema = indexed schema_9 filing_at line_index
+first_schema =
+    indexed (indexed (indexed (indexed first_tables statement_at record_index) statement_at
+    subject_index) identifier_at identifier_index) filing_at line_index
 
 -- the tables and indexes of a register
 abbrev pub keep_schema : Schema

@@ -6,7 +6,7 @@ use Rattle.bor_store_sql.specs.Rows.Placed.{placed, same_place}
 use Rattle.bor_store_sql.specs.Rows.Encoding.{identifier_columns}
 use Rattle.bor_store_sql.specs.Rows.RowForms.{IsFormedPlaced, IsFormedIdentifierRow}
 use Rattle.bor_store_sql.proofs.OnRows.Formed.{placed_formed, all_identifiers_formed}
-use Rattle.bor_store_sql.proofs.BothReads.{finds_now}
+use Rattle.bor_store_sql.proofs.Finding.{finds_now}
 use Rattle.bor_store_reads.proofs.Found.{all_told}
 use Rattle.bor_store_reads.proofs.declarations.identifiers_of_one.Goals as goal
 

@@ -8,7 +8,7 @@ use Rattle.bor_store_sql.specs.Rows.Encoding.{interest_line_columns}
 use Rattle.bor_store_sql.specs.Rows.RowForms.{IsFormedPlaced, IsFormedInterestLine}
 use Rattle.bor_store_sql.proofs.OnRows.Formed.{placed_formed, all_interests_formed, all_lines_formed}
 use Rattle.bor_store_sql.specs.Selected.{interests_at}
-use Rattle.bor_store_sql.proofs.BothReads.{finds_now}
+use Rattle.bor_store_sql.proofs.Finding.{finds_now}
 use Rattle.bor_store_reads.proofs.Found.{all_told}
 use Rattle.bor_store_reads.proofs.declarations.lines_of_one.Goals as goal
 

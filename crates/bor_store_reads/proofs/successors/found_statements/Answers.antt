@@ -8,7 +8,7 @@ use Rattle.bor_store_sql.specs.Rows.Encoding.{statement_columns}
 use Rattle.bor_store_sql.specs.Rows.RowForms.{IsFormedPlaced, IsFormedStatementRow}
 use Rattle.bor_store_sql.proofs.OnRows.Formed.{all_bare_formed}
 use Rattle.bor_store_sql.specs.Selected.{in_filing, placed_of}
-use Rattle.bor_store_sql.proofs.BothReads.{finds_now}
+use Rattle.bor_store_sql.proofs.Finding.{finds_now}
 use Rattle.bor_store_reads.proofs.Found.{all_told}
 use Rattle.bor_store_reads.proofs.FoundStatements.{own_formed}
 use Rattle.bor_store_reads.proofs.successors.found_statements.Goals as goal

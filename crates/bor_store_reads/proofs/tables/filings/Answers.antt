@@ -2,7 +2,7 @@ use Rattle.std.proofs.Common.{refl}
 use Rattle.bor_store_sql.specs.Rows.Encoding.{line_columns}
 use Rattle.bor_store_sql.specs.Rows.RowForms.{IsFormedFilingRow}
 use Rattle.bor_store_sql.proofs.OnRows.Formed.{lines_formed}
-use Rattle.bor_store_sql.proofs.BothReads.{finds_now}
+use Rattle.bor_store_sql.proofs.Finding.{finds_now}
 use Rattle.bor_store_reads.proofs.Found.{all_told}
 use Rattle.bor_store_reads.proofs.tables.filings.Goals as goal
 

@@ -1,24 +1,21 @@
-use Rattle.std.proofs.Common.{◌≡◌, ◌<◌, All, subst, arith, rules}
-use Rattle.sqlite.specs.Effect.{Database}
+use Rattle.std.proofs.Common.{◌<◌, All, subst, arith, rules}
 use Rattle.sqlite.specs.Held.{state}
 use Rattle.std.proofs.lemmas.List.Elements.{All-from_get_or}
 use Rattle.bor_terms.specs.Day.{IsDay}
 use Rattle.bor_store_sql.specs.Rows.Encoding.{contents}
 use Rattle.bor_store_sql.specs.Rows.Stored.{AreCounted}
-use Rattle.bor_store_sql.specs.Changing.{Any, MayAdd, added, with_live_filing}
-use Rattle.bor_store_sql.specs.Shown.{ChangesContents, StepsTo, ShowsIn}
+use Rattle.bor_store_sql.specs.Changing.{Any, with_live_filing}
+use Rattle.bor_store_sql.specs.Shown.{ChangesContents, StepsTo}
 use Rattle.bor_store_sql.proofs.AddedContents.{added_has}
 use Rattle.bor_store_sql.proofs.StoredMembers.{added_stored}
-use Rattle.bor_store_sql.proofs.Ending.{Ended, alters, ended}
+use Rattle.bor_store_sql.proofs.Ending.{alters, ended}
 use Rattle.bor_store_sql.proofs.Moves.{with_known}
 use Rattle.bor_store_sql.proofs.additions.add_filing.Goals as goal
 
 pub returns : goal.returns
 returns g c =
-    let was = c.args.conn.now in
-    let began = c.transaction-tx.result.conn.now in
+    let began = state g.S.Store c.transaction-tx.result.conn.now in
     let mid = state g.S.Store c.insert_rows-done.new.tx.conn.now in
-    let end = c.finish.new.tx.0 in
     let agent = c.args.filing.agent in
     let number = c.args.filing.number in
     let key = c.args.key.now in
@@ -27,11 +24,7 @@ returns g c =
     let ss = c.args.statements.now in
     let is = subst IsDay c.number-known.ensures.value c.number-known.ensures.within in
     let are_bytes : All (λ b. b < 256) bytes = All-from_get_or (λ b. b < 256) bytes 0 (λ i lt. let fits = c.type_inv.bytes i in omega (arith, fits)) in
-    let steps = subst (λ k. StepsTo Any (with_live_filing agent number k due bytes ss) (state g.S.Store began) mid c.insert_rows-done.result) c.as_str-lodge_key.ensures.value c.insert_rows-done.ensures.steps in
-    let Makes : Database → Database → Type 0 = λ was is. ChangesContents Any (with_live_filing agent number key due bytes ss) was is × AreCounted ss in
-    let counted = with_known (AreCounted ss) (ChangesContents Any (with_live_filing agent number key due bytes ss)) (state g.S.Store began) mid c.insert_rows-done.result c.insert_rows-done.ensures.counted steps in
-    let ends = ended g.S.Store Makes was began mid (state g.S.Store end) c.insert_rows-done.result c.finish.result (search rules) (c.is_autocommit.ensures.settled (search rules)) c.transaction-tx.ensures.begun counted c.insert_rows-done.ensures.ran_open c.finish.ensures.mode c.finish.ensures.ends in
-    let same : end ≡ c.conn-1.given.0 = search rules in
-    let it = subst (λ h. Ended Makes (state g.S.Store was) (state g.S.Store h) c.finish.result) same ends in
-    alters Makes ShowsIn (MayAdd agent number ss) (added agent key due bytes ss)
-    (λ r shows may db makes. (added_has agent number key due bytes ss r may.enrolled may.next db (makes.0 (contents r) shows.has (tt {0})), added_stored agent key due bytes ss r shows.stored may.room c.as_str-lodge_key.ensures.form is are_bytes may.formed makes.1)) it
+    let steps = subst (λ k. StepsTo Any (with_live_filing agent number k due bytes ss) began mid c.insert_rows-done.result) c.as_str-lodge_key.ensures.value c.insert_rows-done.ensures.steps in
+    let counted = with_known (AreCounted ss) (ChangesContents Any (with_live_filing agent number key due bytes ss)) began mid c.insert_rows-done.result c.insert_rows-done.ensures.counted steps in
+    alters (ended g.S.Store c.args.conn.now c.finish.new.tx.0 c.conn-1.given.0 c.transaction-tx.ensures.begun counted c.insert_rows-done.ensures.ran_open c.finish.ensures.ends c.finish.ensures.mode (c.is_autocommit.ensures.settled (search rules)) (search rules) (search rules))
+    (λ r shows may db makes. (added_has agent number key due bytes ss r may.enrolled may.next db (makes.0 (contents r) shows.has (tt {0})), added_stored agent key due bytes ss r shows.stored may.room c.as_str-lodge_key.ensures.form is are_bytes may.formed makes.1))

@@ -1,9 +1,6 @@
 use Rattle.bor_store_sql.proofs.Adding.{filing_put}
-use Rattle.bor_store_sql.proofs.Moves.{moves_by, run_open}
+use Rattle.bor_store_sql.proofs.Moves.{moves_by}
 use Rattle.bor_store_sql.proofs.additions.insert_filing.Goals as goal
-
-pub returns-clause-ran_open : goal.returns-clause-ran_open
-returns-clause-ran_open g c = run_open _ _ _ _ _ c.run.ensures.ran
 
 pub returns-clause-steps : goal.returns-clause-steps
 returns-clause-steps g c = moves_by c.run.ensures.ran c.filing_values.ensures (filing_put c.args.filing.now.agent c.args.filing.now.number c.args.key.now c.args.due c.args.bytes.now)

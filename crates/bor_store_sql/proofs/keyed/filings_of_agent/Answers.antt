@@ -1,11 +1,6 @@
-use Rattle.bor_store_sql.proofs.OnTexts.QueryMeanings.{filings_of_agent_is}
-use Rattle.bor_store_sql.proofs.Plain.{is_query}
 use Rattle.bor_store_sql.proofs.Finding.{finds}
 use Rattle.bor_store_sql.proofs.Selecting.{filings_of_agent_found}
 use Rattle.bor_store_sql.proofs.keyed.filings_of_agent.Goals as goal
-
-pub query-requires : goal.query-requires
-query-requires g c = is_query filings_of_agent_is
 
 pub returns : goal.returns
 returns g c = finds c.query.ensures c.one_text.ensures (filings_of_agent_found c.args.agent.now)

@@ -1,11 +1,6 @@
-use Rattle.bor_store_sql.proofs.OnTexts.QueryMeanings.{periods_of_statement_is}
-use Rattle.bor_store_sql.proofs.Plain.{is_query}
 use Rattle.bor_store_sql.proofs.Finding.{finds}
 use Rattle.bor_store_sql.proofs.PeriodReads.{periods_of_statement_found}
 use Rattle.bor_store_sql.proofs.keyed.periods_of_statement.Goals as goal
-
-pub query-requires : goal.query-requires
-query-requires g c = is_query periods_of_statement_is
 
 pub returns : goal.returns
 returns g c = finds c.query.ensures c.statement_key.ensures (periods_of_statement_found c.args.at.now)

@@ -1,11 +1,6 @@
-use Rattle.bor_store_sql.proofs.OnTexts.QueryMeanings.{statements_of_filing_is}
-use Rattle.bor_store_sql.proofs.Plain.{is_query}
 use Rattle.bor_store_sql.proofs.Finding.{finds}
-use Rattle.bor_store_sql.proofs.BothKeyed.{statements_of_filing_found}
+use Rattle.bor_store_sql.proofs.BothReads.{statements_of_filing_found}
 use Rattle.bor_store_sql.proofs.keyed.statements_of_filing.Goals as goal
-
-pub query-requires : goal.query-requires
-query-requires g c = is_query statements_of_filing_is
 
 pub returns : goal.returns
 returns g c = finds c.query.ensures c.filing_key.ensures (statements_of_filing_found c.args.agent.now c.args.number)

@@ -1,11 +1,6 @@
-use Rattle.bor_store_sql.proofs.OnTexts.QueryMeanings.{identifiers_by_id_is}
-use Rattle.bor_store_sql.proofs.Plain.{is_query}
 use Rattle.bor_store_sql.proofs.Finding.{finds}
 use Rattle.bor_store_sql.proofs.Selecting.{identifiers_by_id_found}
 use Rattle.bor_store_sql.proofs.records.identifiers_by_id.Goals as goal
-
-pub query-requires : goal.query-requires
-query-requires g c = is_query identifiers_by_id_is
 
 pub returns : goal.returns
 returns g c = finds c.query.ensures c.two_texts.ensures (identifiers_by_id_found c.args.scheme.now c.args.id.now)

@@ -1,11 +1,6 @@
-use Rattle.bor_store_sql.proofs.OnTexts.QueryMeanings.{statement_by_place_is}
-use Rattle.bor_store_sql.proofs.Plain.{is_query}
 use Rattle.bor_store_sql.proofs.Finding.{finds}
 use Rattle.bor_store_sql.proofs.Selecting.{statement_by_place_found}
 use Rattle.bor_store_sql.proofs.records.statement_by_place.Goals as goal
-
-pub query-requires : goal.query-requires
-query-requires g c = is_query statement_by_place_is
 
 pub returns : goal.returns
 returns g c = finds c.query.ensures c.statement_key.ensures (statement_by_place_found c.args.at.now)

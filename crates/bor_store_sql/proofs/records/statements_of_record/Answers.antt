@@ -1,11 +1,6 @@
-use Rattle.bor_store_sql.proofs.OnTexts.QueryMeanings.{statements_of_record_is}
-use Rattle.bor_store_sql.proofs.Plain.{is_query}
 use Rattle.bor_store_sql.proofs.Finding.{finds}
 use Rattle.bor_store_sql.proofs.Selecting.{statements_of_record_found}
 use Rattle.bor_store_sql.proofs.records.statements_of_record.Goals as goal
-
-pub query-requires : goal.query-requires
-query-requires g c = is_query statements_of_record_is
 
 pub returns : goal.returns
 returns g c = finds c.query.ensures c.two_texts.ensures (statements_of_record_found c.args.agent.now c.args.rec.now)

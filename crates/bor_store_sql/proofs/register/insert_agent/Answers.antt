@@ -1,10 +1,7 @@
 use Rattle.bor_register.specs.Register.{new_member}
 use Rattle.bor_store_sql.proofs.Adding.{agent_put}
-use Rattle.bor_store_sql.proofs.Moves.{moves_by, run_open}
+use Rattle.bor_store_sql.proofs.Moves.{moves_by}
 use Rattle.bor_store_sql.proofs.register.insert_agent.Goals as goal
-
-pub returns-clause-ran_open : goal.returns-clause-ran_open
-returns-clause-ran_open g c = run_open _ _ _ _ _ c.run.ensures.ran
 
 pub returns-clause-steps : goal.returns-clause-steps
 returns-clause-steps g c = moves_by c.run.ensures.ran c.agent_values.ensures (agent_put (new_member c.args.agent.now c.args.token.now))

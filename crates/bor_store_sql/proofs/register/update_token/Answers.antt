@@ -1,9 +1,6 @@
 use Rattle.bor_store_sql.proofs.Renewing.{token_updated}
-use Rattle.bor_store_sql.proofs.Moves.{moves_by, run_open}
+use Rattle.bor_store_sql.proofs.Moves.{moves_by}
 use Rattle.bor_store_sql.proofs.register.update_token.Goals as goal
-
-pub returns-clause-ran_open : goal.returns-clause-ran_open
-returns-clause-ran_open g c = run_open _ _ _ _ _ c.run.ensures.ran
 
 pub returns-clause-steps : goal.returns-clause-steps
 returns-clause-steps g c = moves_by c.run.ensures.ran c.two_texts.ensures (token_updated c.args.agent.now c.args.token.now)

@@ -3,11 +3,11 @@ use Rattle.std.proofs.Common.{ap, sym, subst, length}
 use Rattle.sqlite.specs.Held.{state}
 use Rattle.sqlite.specs.State.{HasCleanDisk}
 use Rattle.bor_register.specs.Register.{Register, filings_of}
-use Rattle.bor_store_sql.specs.Shown.{IsClean, IsUp, ShowsIn}
+use Rattle.bor_store_sql.specs.Shown.{IsClean, IsUp, ShowsIn, Stands}
 use Rattle.bor_store_sql.specs.Changing.{added}
 use Rattle.bor_store.proofs.Lasting.{lasts_told, stays_up}
 use Rattle.bor_store.proofs.Filing.{counted_told, filed_shown, unfiled_shown}
-use Rattle.bor_store.proofs.Stopping.{keep_leaves_where}
+use Rattle.bor_store.proofs.Stopping.{keep_leaves}
 use Rattle.bor_store.proofs.Undamaged.{undamaged_said}
 use Rattle.bor_register.specs.Additions.{MayFile}
 use Rattle.bor_store.proofs.sql_keep.SqlKeepKeep.add_filing.Goals as goal
@@ -18,8 +18,8 @@ returns-clause-changes g c =
     let told = c.told.ensures in
     let same = c.connection.ensures.value in
     let changed : Register → Register = λ r. added c.args.agent.now c.args.key.now c.args.due c.args.bytes.now c.args.statements.now r in
-    let leaves = keep_leaves_where (λ k. state g.S.Store k.conn) (λ k. k.faults) c.args.self.now c.told.new.self (state g.S.Store c.connection.result.now) (state g.S.Store c.add_next_filing-made.new.conn)
-    (ap (state g.S.Store) same) (ap (state g.S.Store) told.conn) made.commits.clean made.commits.began _ made.stops (MayFile c.args.agent.now c.args.key.now c.args.statements.now) changed (λ r shows fits trees stands. stands r shows fits.enrolled fits.room) in
+    let leaves = keep_leaves (λ k. state g.S.Store k.conn) (λ k. k.faults) c.args.self.now c.told.new.self (state g.S.Store c.connection.result.now) (state g.S.Store c.add_next_filing-made.new.conn)
+    (ap (state g.S.Store) same) (ap (state g.S.Store) told.conn) made.commits.clean made.commits.began _ made.stops (λ r trees. MayFile c.args.agent.now c.args.key.now c.args.statements.now r → Stands (changed r) trees) (λ r shows trees stands fits. stands r shows fits.enrolled fits.room) in
     record {
       leaves = leaves;
       lasts = lasts_told (λ k. state g.S.Store k.conn) (λ k. k.faults) c.args.self.now c.told.new.self
