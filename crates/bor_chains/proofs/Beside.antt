@@ -1,5 +1,5 @@
 -- Maps beside lists.
-use Rattle.std.proofs.Common.{ℤ, ◌≡◌, ◌⊎◌, ◌+◌, ◌<◌, ◌≤◌, ◌&&◌, ℕ, zero, suc, Bool, true, false, cond, Option, Some, None, IsSome, option_map, List, map, ◌∷◌, drop, length, get_or, Contains, [], ◌++◌, nat_eq, sym, refl, ap, subst, inl, inr, arith, ◌∙◌, Bor, Vec, Global}
+use Rattle.std.proofs.Common.{ℤ, ◌≡◌, ◌⊎◌, ◌+◌, ◌<◌, ◌≤◌, ◌&&◌, ℕ, zero, suc, Bool, true, false, cond, Option, Some, None, IsSome, option_map, Result, Ok, Err, IfOk, List, map, ◌∷◌, drop, length, get_or, Contains, [], ◌++◌, nat_eq, sym, refl, ap, subst, inl, inr, arith, ◌∙◌, Bor, Vec, Global}
 use Rattle.std.specs.Prelude.{nat_lt}
 use Rattle.std.specs.List.{slice_get, filter_map, list_any, IsDistinct, AllByRecursion}
 use Rattle.std.specs.Cmp.{nat_eq_equiv}
@@ -241,3 +241,8 @@ subject_placed day nodes rows place_of are l h =
         within : (o : Option OpenNode) → slice_get nodes i ≡ o → IsSome o → i < length nodes
         within None q x = absurd cc
         within (Some y) q x = slice_get_within nodes i y q
+
+-- the same, of what is answered
+pub if_ok : {T E : Type 0} (P Q : T → Type 0) (r : Result T E) → ((x : T) → P x → Q x) → IfOk r P → IfOk r Q
+if_ok P Q (Ok x) f h = f x h
+if_ok P Q (Err e) f h = tt

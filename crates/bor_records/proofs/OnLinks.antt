@@ -16,7 +16,7 @@ pub mod InOrder
 pub mod Listed
 pub mod Reached
 pub mod SignsOfRows
-pub mod Sought
+pub mod Signed
 pub mod ByRecord
 pub mod Linking
 pub mod Aliasing

@@ -1,11 +1,11 @@
 //! A record as a node.
 
-ghost use Rattle.std.specs.Prelude.{◌≡◌, false, IfOk, option_and_then};
+ghost use Rattle.std.specs.Prelude.{◌≡◌, false, IfOk, option_and_then, option_map};
 ghost use Rattle.sqlite.specs.Held.{state};
 ghost use Rattle.bor_records.specs.Links.ByKey.{node_at};
 ghost use Rattle.bor_records.specs.Links.Rows.{is_entity_info, is_some_info, node_in};
 ghost use Rattle.bor_records.specs.Links.Series.{open_at};
-ghost use Rattle.bor_records.specs.Links.Shown.{info_of};
+ghost use Rattle.bor_records.specs.Links.Shown.{entity_identifiers, identifiers_in, info_of};
 ghost use Rattle.bor_register.specs.Seen.{seen_at};
 ghost use Rattle.bor_store_reads.specs.Answering.{ReadsIn};
 ghost use Rattle.bor_store_keys.specs.Finding.{Holds};
@@ -16,6 +16,7 @@ use crate::lookup::Lookup;
 use crate::opened::open_row;
 use crate::view::View;
 use crate::views::view_of;
+use bods_read::Identifier;
 use bor_records::Row;
 use bor_records::links::{Node, NodeInfo, OpenNode, node_of};
 use bor_store_reads::ReadError;
@@ -69,8 +70,8 @@ fn node_read<S: Alter + Drop>(
     Ok(one)
 }
 
-/// A node with its identifiers, which is read of the tables once.
-pub(crate) fn node_in<S: Alter + Drop>(
+// The same, which is read of the tables once.
+fn node_in<S: Alter + Drop>(
     lookup: &mut Lookup<S>,
     alloc: Global,
     view: &View,
@@ -83,6 +84,29 @@ pub(crate) fn node_in<S: Alter + Drop>(
         Some(one) => Ok(one),
         None => node_read(lookup, alloc, view, node),
     }
+}
+
+fn identifiers_of(one: Option<OpenNode>) -> Option<Vec<Identifier>>
+    ensures { option_map (λ i. i.items) result ≡ option_and_then entity_identifiers one }
+{
+    match one {
+        Some(one) if one.info.is_entity() => Some(one.identifiers.into_vec()),
+        _ => None,
+    }
+}
+
+/// The identifiers of a record that is an open entity; `None` where it isn't one. They are read of
+/// the tables once.
+pub(crate) fn identifiers_in<S: Alter + Drop>(
+    lookup: &mut Lookup<S>,
+    alloc: Global,
+    view: &View,
+    node: &Node,
+) -> Result<Option<Vec<Identifier>>, ReadError>
+    ensures { ReadsIn S.Store lookup.old lookup.new result (λ r found.
+        option_map (λ i. i.items) found ≡ identifiers_in (seen view.now r).nodes node.now) }
+{
+    Ok(identifiers_of(node_in(lookup, alloc, view, node)?))
 }
 
 // The data that a chain needs of a node, as the tables have it.

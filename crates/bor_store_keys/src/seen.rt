@@ -3,10 +3,11 @@
 ghost use Rattle.bor_store_keys.specs.Viewed.{Viewing, shown_in};
 
 use crate::lookup::Lookup;
-use crate::nodes::node_in;
+use crate::nodes::identifiers_in;
 use crate::records::records_with;
 use crate::view::View;
-use bor_records::links::{Node, OpenNode, Records, Sign};
+use bods_read::Identifier;
+use bor_records::links::{Node, Records, Sign};
 use bor_store_reads::ReadError;
 use sqlite::Alter;
 use std::alloc::Global;
@@ -34,6 +35,8 @@ impl<'a, S: Alter + Drop> Records for Seen<'a, S> {
 
     type Nodes = Vec<Node>;
 
+    type Identifiers = Vec<Identifier>;
+
     ghost Content = { Viewing };
 
     ghost shown = { shown_in };
@@ -47,8 +50,8 @@ impl<'a, S: Alter + Drop> Records for Seen<'a, S> {
       may_tell = IsNoDamage;
     } };
 
-    fn open(&mut self, node: &Node) -> Result<Option<OpenNode>, ReadError> {
-        node_in(self.lookup, self.alloc, self.view, node)
+    fn identifiers(&mut self, node: &Node) -> Result<Option<Vec<Identifier>>, ReadError> {
+        identifiers_in(self.lookup, self.alloc, self.view, node)
     }
 
     fn signed(&mut self, sign: &Sign) -> Result<Vec<Node>, ReadError> {

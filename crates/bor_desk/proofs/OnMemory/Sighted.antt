@@ -16,7 +16,7 @@ use Rattle.bor_records.specs.Links.Answers.{only_into}
 use Rattle.bor_records.specs.Links.ByKey.{node_at}
 use Rattle.bor_records.specs.Links.Rows.{info_stated, link_with, node_in, node_with, nodes_of, shown_of}
 use Rattle.bor_records.specs.Links.Series.{open_at, series_of, stated}
-use Rattle.bor_records.specs.Links.Shown.{info_of, is_entity}
+use Rattle.bor_records.specs.Links.Shown.{entity_identifiers, identifiers_in, info_of, is_entity}
 use Rattle.bor_records.specs.Links.Signs.{signs}
 use Rattle.bor_records.proofs.OnLinks.ByKey.{listed_by_key, open_at_in}
 use Rattle.bor_records.proofs.OnLinks.Found.{here}
@@ -26,7 +26,7 @@ use Rattle.bor_register.specs.declared.member.Member.{Member}
 use Rattle.bor_register.specs.Register.{IsOrdered}
 use Rattle.bor_register.specs.Rows.{visible}
 use Rattle.bor_desk.specs.Memory.Indexed.{AllNoted, record_beside, signs_in, signs_of, subjects_in, subjects_of}
-use Rattle.bor_desk.specs.Memory.Sighted.{as_row}
+use Rattle.bor_desk.specs.Memory.Sighted.{as_row, identifiers_stated}
 use Rattle.bor_desk.proofs.OnMemory.Rows.{seen-live}
 
 -- ---- nodes
@@ -35,6 +35,11 @@ info_made : (n : Node) (d : Details) → option_map (λ (x : OpenNode). x.info) 
 info_made n (details.Entity kind name identifiers) = refl
 info_made n (details.Person kind name) = refl
 info_made n (details.Relationship subject party interests) = refl
+
+identifiers_made : (n : Node) (d : Details) → identifiers_stated d ≡ option_and_then entity_identifiers (node_with n d)
+identifiers_made n (details.Entity kind name identifiers) = refl
+identifiers_made n (details.Person kind name) = refl
+identifiers_made n (details.Relationship subject party interests) = refl
 
 module _ (day : ℤ) (rows : List Row) (n : Node) where
   -- a node is what the statement says that its record shows
@@ -51,6 +56,13 @@ module _ (day : ℤ) (rows : List Row) (n : Node) where
       go : (o : Option Statement) → option_and_then (λ (s : Statement). info_stated s.details) o ≡ option_map (λ (x : OpenNode). x.info) (option_and_then (λ (s : Statement). node_with n s.details) o)
       go None = refl
       go (Some s) = sym (info_made n s.details)
+
+  pub identifiers_open : (t : Option Statement) → t ≡ option_map (λ (r : Row). r.statement) (open_at day n rows) → option_and_then (λ (s : Statement). identifiers_stated s.details) t ≡ identifiers_in (nodes_of day rows) n
+  identifiers_open t is = go t ∙ ap (option_and_then entity_identifiers) (node_open t is ∙ sym (listed_by_key day n rows))
+    where
+      go : (o : Option Statement) → option_and_then (λ (s : Statement). identifiers_stated s.details) o ≡ option_and_then entity_identifiers (option_and_then (λ (s : Statement). node_with n s.details) o)
+      go None = refl
+      go (Some s) = identifiers_made n s.details
 
 link_placed : (day : ℤ) (nodes : List OpenNode) (r : Row) (agent : List ℕ) (d : Details) → r.agent ≡ agent → link_with day nodes r d ≡ link_with day nodes (as_row agent r.statement) d
 link_placed day nodes r agent d e = subst (λ (a : List ℕ). link_with day nodes r d ≡ link_with day nodes (as_row a r.statement) d) e (go d)

@@ -1,6 +1,6 @@
 -- The part of a register in memory that a viewer sees, read by key; for clauses of private
 -- functions alone.
-use Rattle.std.specs.Prelude.{ℕ, List, [], Option, None, Some, option_map, if◌then◌else◌}
+use Rattle.std.specs.Prelude.{ℕ, List, Option, None, Some, option_map, if◌then◌else◌}
 use Rattle.bods_read.specs.declared.details.Details.{Details}
 use Rattle.bods_read.specs.declared.details.Details.TheVariants as details
 use Rattle.bods_read.specs.declared.details.Identifier.{Identifier}
@@ -42,7 +42,7 @@ abbrev pub as_row : List ℕ → Statement → Row
 as_row agent s = row_of agent 0 0 s
 
 -- an entity's identifiers
-abbrev pub identifiers_in : Details → List Identifier
-identifiers_in (details.Entity kind name identifiers) = identifiers
-identifiers_in (details.Person kind name) = []
-identifiers_in (details.Relationship subject party interests) = []
+abbrev pub identifiers_stated : Details → Option (List Identifier)
+identifiers_stated (details.Entity kind name identifiers) = Some identifiers
+identifiers_stated (details.Person kind name) = None
+identifiers_stated (details.Relationship subject party interests) = None

@@ -1,8 +1,9 @@
 //! What a viewer sees of a register in memory, as records that are read by key.
 
 use crate::memory::index::Index;
-use crate::memory::sight::{Sight, node_in};
-use bor_records::links::{Node, OpenNode, Records, Sign};
+use crate::memory::sight::{Sight, identifiers_told};
+use bods_read::Identifier;
+use bor_records::links::{Node, Records, Sign};
 use std::alloc::AllocError;
 use std::marker::Model;
 
@@ -33,6 +34,8 @@ impl<'a> Records for Sighted<'a> {
 
     type Nodes = &'a [Node];
 
+    type Identifiers = &'a [Identifier];
+
     ghost Content = { Shown };
 
     ghost shown = { λ s. s };
@@ -45,8 +48,8 @@ impl<'a> Records for Sighted<'a> {
       may_tell = λ fault. Unit {0};
     } };
 
-    fn open(&mut self, node: &Node) -> Result<Option<OpenNode>, AllocError> {
-        node_in(&self.sight, node)
+    fn identifiers(&mut self, node: &Node) -> Result<Option<&'a [Identifier]>, AllocError> {
+        Ok(identifiers_told(&self.sight, node))
     }
 
     fn signed(&mut self, sign: &Sign) -> Result<&'a [Node], AllocError> {

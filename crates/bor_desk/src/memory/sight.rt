@@ -4,21 +4,21 @@ ghost use Rattle.std.specs.Prelude.{◌≡◌, ◌++◌, [], true, None, Some, I
 ghost use Rattle.std.specs.List.{cons_option, filter_map, last_or};
 ghost use Rattle.bor_records.specs.Links.Answers.{AreLinksInto, only_into};
 ghost use Rattle.bor_records.specs.Links.Nodes.{same_node};
-ghost use Rattle.bor_records.specs.Links.Rows.{info_stated, is_entity_info, is_some_info, link_between, node_with, nodes_of};
+ghost use Rattle.bor_records.specs.Links.Rows.{info_stated, is_entity_info, is_some_info, link_between, nodes_of};
 ghost use Rattle.bor_records.specs.Links.Series.{open_at};
-ghost use Rattle.bor_records.specs.Links.Shown.{info_of, listed_at};
+ghost use Rattle.bor_records.specs.Links.Shown.{identifiers_in, info_of};
 ghost use Rattle.bor_records.specs.Snapshot.{unless_closed as row_unless_closed};
 ghost use Rattle.bor_records.specs.Links.Candidates.{link_at, link_into};
 ghost use Rattle.bor_desk.specs.Memory.Sited.{is_told, passes, row_sited, sited_at};
 ghost use Rattle.bor_register.specs.Rows.{row_of};
-ghost use Rattle.bor_desk.specs.Memory.Sighted.{IsIndexed, as_row, identifiers_in, in_sight, rows_in_sight, statement_open, statement_unless_closed};
+ghost use Rattle.bor_desk.specs.Memory.Sighted.{IsIndexed, as_row, identifiers_stated, in_sight, rows_in_sight, statement_open, statement_unless_closed};
 
 use crate::memory::index::{Index, Place, node_named};
 use bods_read::{Details, Identifier, Interest, Statement, Status};
 use bor_records::Row;
-use bor_records::links::{Link, Node, NodeInfo, OpenNode, holding_of, info_stated, once, stake_of};
+use bor_records::links::{Link, Node, NodeInfo, holding_of, info_stated, once, stake_of};
 use bor_register::{AcceptedFiling, Member, own_filings, row_of};
-use bor_terms::{AgentName, Day, Ident, Listed};
+use bor_terms::{AgentName, Day, Ident};
 use std::alloc::{AllocError, Global};
 
 /// The part of these members that a viewer sees on the register's day, `today`, as it stands on a
@@ -213,48 +213,25 @@ fn is_entity(sight: &Sight, node: &Node) -> bool
     }
 }
 
-fn copied(alloc: Global, identifiers: &[Identifier]) -> Result<Listed<Identifier>, AllocError>
-    ensures { IfOk result (λ copied. copied ≡ identifiers.now) }
-{
-    let mut copied = Vec::new(alloc);
-    for identifier in identifiers {
-        copied.push(identifier.copy(alloc)?)?;
-    }
-    Ok(Listed::new(copied))
-}
-
 // An entity's identifiers.
-fn identifiers_in(alloc: Global, details: &Details) -> Result<Listed<Identifier>, AllocError>
-    ensures { IfOk result (λ identifiers. identifiers ≡ identifiers_in details.now) }
+fn identifiers_stated<'a>(details: &'a Details) -> Option<&'a [Identifier]>
+    ensures { option_map (λ i. i.now) result ≡ identifiers_stated details.now }
 {
     match details {
-        Details::Entity { identifiers, .. } => copied(alloc, identifiers.as_slice()),
-        _ => Ok(Listed::new(Vec::new(alloc))),
+        Details::Entity { identifiers, .. } => Some(identifiers.as_slice()),
+        _ => None,
     }
 }
 
-// The open node that the details of an entity or a person make.
-fn node_with(alloc: Global, node: &Node, details: &Details) -> Result<Option<OpenNode>, AllocError>
-    ensures { IfOk result (λ one. one ≡ node_with node.now details.now) }
-{
-    match info_stated(alloc, details)? {
-        Some(info) => Ok(Some(OpenNode {
-            node: node.copy(alloc)?,
-            info,
-            identifiers: identifiers_in(alloc, details)?,
-        })),
-        None => Ok(None),
-    }
-}
-
-/// A node with its identifiers; `None` where it isn't open.
-pub(crate) fn node_in(sight: &Sight, node: &Node) -> Result<Option<OpenNode>, AllocError>
+/// The identifiers of a record that is an open entity; `None` where it isn't one.
+pub(crate) fn identifiers_told<'a>(sight: &Sight<'a>, node: &Node) -> Option<&'a [Identifier]>
     requires { IsIndexed sight.now }
-    ensures { IfOk result (λ one. one ≡ listed_at (in_sight sight.now).nodes node.now) }
+    ensures { option_map (λ i. i.now) result
+        ≡ identifiers_in (in_sight sight.now).nodes node.now }
 {
     match open_statement(sight, node) {
-        Some(statement) => node_with(sight.alloc, node, &statement.details),
-        None => Ok(None),
+        Some(statement) => identifiers_stated(&statement.details),
+        None => None,
     }
 }
 

@@ -1,9 +1,8 @@
 -- Nodes that stand for one entity, sign by sign.
-use Rattle.std.proofs.Common.{◌≡◌, ◌⊎◌, ◌+◌, ◌<◌, ◌++◌, ◌&&◌, ◌||◌, not, ℕ, Bool, true, false, cond, Option, Some, None, List, [], ◌∷◌, Contains, map, take, length, get_or, refl, sym, ap, ◌∙◌, subst, inl, inr, arith, append-nil, append_assoc}
+use Rattle.std.proofs.Common.{◌≡◌, ◌≢◌, ◌↔◌, ◌⊎◌, ◌+◌, ◌<◌, ◌++◌, ◌&&◌, ◌||◌, not, ℕ, Bool, true, false, cond, List, [], ◌∷◌, Contains, map, take, length, get_or, refl, sym, ap, ◌∙◌, subst, inl, inr, arith, append-nil, append_assoc}
 use Rattle.std.specs.List.{IsDistinct}
 use Rattle.std.specs.Ordering.{is_eq}
 use Rattle.std.proofs.lemmas.Bool.{and_parts}
-use Rattle.std.proofs.lemmas.Option.{same_Some}
 use Rattle.std.proofs.lemmas.List.{take-append-le}
 use Rattle.std.proofs.lemmas.List.Elements.{Contains-get_or, Contains-append_left, Contains-append_right, Contains-append_cases}
 use Rattle.std.proofs.lemmas.Map.Views.{tells_apart}
@@ -11,55 +10,54 @@ use Rattle.bor_terms.proofs.Texts.{same_refl}
 use Rattle.bods_read.specs.declared.details.Identifier.{Identifier}
 use Rattle.bor_records.specs.declared.links.node.Node.{Node}
 use Rattle.bor_records.specs.declared.links.node.OpenNode.{OpenNode}
-use Rattle.bor_records.specs.declared.links.search.Sought.{Sought}
 use Rattle.bor_records.specs.declared.links.sign.Sign.{Sign}
-use Rattle.bor_records.specs.Links.Aliases.{Alias}
-use Rattle.bor_records.specs.Links.Alike.{Expands, FollowsSigns}
-use Rattle.bor_records.specs.Links.Answers.{AreAliases, HaveSigned}
-use Rattle.bor_records.specs.Links.Candidates.{IsFoundIn, is_sought}
+use Rattle.bor_records.specs.Links.Aliases.{Alias, Same}
+use Rattle.bor_records.specs.Links.Alike.{Expands}
+use Rattle.bor_records.specs.Links.Answers.{AreAliases}
 use Rattle.bor_records.specs.Links.Growth.{Grown}
 use Rattle.bor_records.specs.Links.Nodes.{same_node}
-use Rattle.bor_records.specs.Links.Shown.{Shown, are_alike, is_entity, is_like, listed_at, same_record, share_identifier}
-use Rattle.bor_records.specs.Links.Signs.{HasSign, by_identifier, by_record, sign_cmp, signs}
+use Rattle.bor_records.specs.Links.Shown.{Shown, are_alike, is_entity, same_record, share_identifier}
+use Rattle.bor_records.specs.Links.Signs.{by_identifier, by_record, sign_cmp, signs_in, signs_with}
 use Rattle.bor_records.proofs.OnLinks.Exact.{exact_sign}
 use Rattle.bor_records.proofs.OnLinks.Found.{none, here, one_of}
 use Rattle.bor_records.proofs.OnLinks.Growth.{grown_cases, Contains-take_more}
 use Rattle.bor_records.proofs.OnLinks.Listed.{found_is}
 use Rattle.bor_records.proofs.OnLinks.Reached.{AreGathered}
 use Rattle.bor_records.proofs.OnLinks.Sames.{same_more}
-use Rattle.bor_records.proofs.OnLinks.Signs.{common_alike, identifiers_more, in_common}
+use Rattle.bor_records.proofs.OnLinks.Signed.{shared, sharing}
+use Rattle.bor_records.proofs.OnLinks.Signs.{identifiers_more}
 
 -- ---- signs looked up
 
-module _ (s : Shown) (one : OpenNode) where
-  pub expands_none : (nodes : List Node) (seen : Sign → Bool) → Expands s one [] nodes nodes seen seen
+module _ (s : Shown) where
+  pub expands_none : (nodes : List Node) (seen : Sign → Bool) → Expands s [] nodes nodes seen seen
   expands_none nodes seen = record {
     rest = [];
     begins = sym (append-nil nodes);
-    alike = λ n h. absurd (none n h);
+    signed = λ n h. absurd (none n h);
     stays = λ k h. h;
     looked = λ k h. absurd (none k h);
     fresh = λ k h. inl h;
   }
 
   -- a sign that was looked up before
-  pub expands_seen : (key : Sign) (nodes : List Node) (seen : Sign → Bool) → seen key ≡ true → Expands s one (key ∷ []) nodes nodes seen seen
+  pub expands_seen : (key : Sign) (nodes : List Node) (seen : Sign → Bool) → seen key ≡ true → Expands s (key ∷ []) nodes nodes seen seen
   expands_seen key nodes seen was = record {
     rest = [];
     begins = sym (append-nil nodes);
-    alike = λ n h. absurd (none n h);
+    signed = λ n h. absurd (none n h);
     stays = λ k h. h;
     looked = λ k h. subst (λ (z : Sign). seen z ≡ true) (one_of key k h) was;
     fresh = λ k h. inl h;
   }
 
   -- a sign that is looked up for the first time
-  pub expands_sign : (key : Sign) (candidates old new : List Node) (was now : Sign → Bool) (what : Sought) → ((o : Option OpenNode) → is_sought what o ≡ is_like one o) → HaveSigned s key candidates → Grown (IsFoundIn s what candidates) old new
-      → ((q : Sign) → now q ≡ cond (is_eq (sign_cmp key q)) true (was q)) → now key ≡ true → Expands s one (key ∷ []) old new was now
-  expands_sign key candidates old new was now what like have g up added = record {
+  pub expands_sign : (key : Sign) (old new : List Node) (was now : Sign → Bool) → Grown (λ n. Contains (signs_in s n) key) old new
+      → ((q : Sign) → now q ≡ cond (is_eq (sign_cmp key q)) true (was q)) → now key ≡ true → Expands s (key ∷ []) old new was now
+  expands_sign key old new was now g up added = record {
     rest = g.rest;
     begins = g.begins;
-    alike = λ n h. sym (like (listed_at s.nodes n)) ∙ (g.only n h).1;
+    signed = λ n h. (key, here key [], g.only n h);
     stays = λ k h. up k ∙ kept (is_eq (sign_cmp key k)) (was k) h;
     looked = λ k h. subst (λ (z : Sign). now z ≡ true) (one_of key k h) added;
     fresh = λ k h. from k (is_eq (sign_cmp key k)) refl (sym (up k) ∙ h);
@@ -69,92 +67,42 @@ module _ (s : Shown) (one : OpenNode) where
       kept true c h = refl
       kept false c h = h
 
-      all : (k : Sign) → key ≡ k → (y : OpenNode) → listed_at s.nodes y.node ≡ Some y → HasSign y k → are_alike one y ≡ true → Contains new y.node
-      all k same y at has alike = g.every y.node (
-        have y at (subst (λ (z : Sign). HasSign y z) (sym same) has),
-        like (listed_at s.nodes y.node) ∙ ap (is_like one) at ∙ alike,
-      )
-
-      from : (k : Sign) (b : Bool) → is_eq (sign_cmp key k) ≡ b → cond b true (was k) ≡ true
-          → (was k ≡ true) ⊎ (Contains (key ∷ []) k × ((y : OpenNode) → listed_at s.nodes y.node ≡ Some y → HasSign y k → are_alike one y ≡ true → Contains new y.node))
+      from : (k : Sign) (b : Bool) → is_eq (sign_cmp key k) ≡ b → cond b true (was k) ≡ true → (was k ≡ true) ⊎ ((n : Node) → Contains (signs_in s n) k → Contains new n)
       from k false q h = inl h
-      from k true q h = let same = tells_apart exact_sign key k q in inr (subst (λ (z : Sign). Contains (key ∷ []) z) same (here key []), all k same)
+      from k true q h = inr (λ n own. g.every n (subst (λ (z : Sign). Contains (signs_in s n) z) (sym (tells_apart exact_sign key k q)) own))
 
   -- signs after signs
-  pub expands_more : (ks js : List Sign) (a b c : List Node) (p q r : Sign → Bool) → Expands s one ks a b p q → Expands s one js b c q r → Expands s one (ks ++ js) a c p r
+  pub expands_more : (ks js : List Sign) (a b c : List Node) (p q r : Sign → Bool) → Expands s ks a b p q → Expands s js b c q r → Expands s (ks ++ js) a c p r
   expands_more ks js a b c p q r g h = record {
     rest = g.rest ++ h.rest;
     begins = h.begins ∙ ap (λ (xs : List Node). xs ++ h.rest) g.begins ∙ append_assoc a g.rest h.rest;
-    alike = λ n k. elim (Contains-append_cases g.rest h.rest n k) [ inl x ↦ g.alike n x | inr y ↦ h.alike n y ];
+    signed = λ n k. elim (Contains-append_cases g.rest h.rest n k) [
+      | inl x ↦ let m = g.signed n x in (m.0, Contains-append_left ks js m.0 m.1, m.2)
+      | inr y ↦ let m = h.signed n y in (m.0, Contains-append_right ks js m.0 m.1, m.2)
+    ];
     stays = λ k x. h.stays k (g.stays k x);
     looked = λ k x. elim (Contains-append_cases ks js k x) [ inl y ↦ h.stays k (g.looked k y) | inr y ↦ h.looked k y ];
     fresh = λ k x. elim (h.fresh k x) [
       | inl was ↦ elim (g.fresh k was) [
         | inl old ↦ inl old
-        | inr y ↦ inr (Contains-append_left ks js k y.0, λ z at has alike. subst (λ (xs : List Node). Contains xs z.node) (sym h.begins) (Contains-append_left b h.rest z.node (y.1 z at has alike)))
+        | inr y ↦ inr (λ n own. subst (λ (xs : List Node). Contains xs n) (sym h.begins) (Contains-append_left b h.rest n (y n own)))
       ]
-      | inr y ↦ inr (Contains-append_right ks js k y.0, y.1)
+      | inr y ↦ inr y
     ];
   }
 
+  -- the sign of a record, and those of its identifiers
+  pub expands_both : (key : Sign) (n : Node) (ids : List Identifier) (a b c : List Node) (p q r : Sign → Bool) → key ≡ by_record n → signs_in s n ≡ signs_with n ids
+      → Expands s (key ∷ []) a b p q → Expands s (map by_identifier ids) b c q r → Expands s (signs_in s n) a c p r
+  expands_both key n ids a b c p q r is signs_are g h =
+      subst (λ (ks : List Sign). Expands s ks a c p r) (ap (λ (z : Sign). z ∷ map by_identifier ids) is ∙ sym signs_are) (expands_more (key ∷ []) (map by_identifier ids) a b c p q r g h)
+
   -- an identifier more
   pub expands_identifier : (ids : List Identifier) (i : ℕ) (d : Identifier) (key : Sign) (a b c : List Node) (p q r : Sign → Bool) → i < length ids → key ≡ by_identifier (get_or ids i d)
-      → Expands s one (map by_identifier (take i ids)) a b p q → Expands s one (key ∷ []) b c q r → Expands s one (map by_identifier (take (i + 1) ids)) a c p r
+      → Expands s (map by_identifier (take i ids)) a b p q → Expands s (key ∷ []) b c q r → Expands s (map by_identifier (take (i + 1) ids)) a c p r
   expands_identifier ids i d key a b c p q r lt is g h =
-      subst (λ (ks : List Sign). Expands s one ks a c p r) (ap (λ (z : Sign). map by_identifier (take i ids) ++ z ∷ []) is ∙ sym (identifiers_more ids i d lt))
+      subst (λ (ks : List Sign). Expands s ks a c p r) (ap (λ (z : Sign). map by_identifier (take i ids) ++ z ∷ []) is ∙ sym (identifiers_more ids i d lt))
       (expands_more (map by_identifier (take i ids)) (key ∷ []) a b c p q r g h)
-
-  -- all signs
-  pub expands_signs : (key : Sign) (a b c : List Node) (p q r : Sign → Bool) → key ≡ by_record one.node
-      → Expands s one (key ∷ []) a b p q → Expands s one (map by_identifier one.identifiers) b c q r → Expands s one (signs one) a c p r
-  expands_signs key a b c p q r is g h =
-      subst (λ (z : Sign). Expands s one (z ∷ map by_identifier one.identifiers) a c p r) is (expands_more (key ∷ []) (map by_identifier one.identifiers) a b c p q r g h)
-
--- ---- a node is asked for its aliases
-
-module _ (s : Shown) (node : Node) where
-  -- there is nothing to be asked
-  follows_none : (nodes : List Node) (seen : Sign → Bool) → ((x : OpenNode) → listed_at s.nodes node ≡ Some x → is_entity x.info ≡ true → ⊥) → FollowsSigns s node nodes nodes seen seen
-  follows_none nodes seen no_entity = record {
-    rest = [];
-    begins = sym (append-nil nodes);
-    each = λ n h. absurd (none n h);
-    stays = λ k h. h;
-    looked = λ x k at has. absurd (no_entity x at has.0);
-    fresh = λ k h. inl h;
-  }
-
-  pub follows_closed : (nodes : List Node) (seen : Sign → Bool) → None ≡ listed_at s.nodes node → FollowsSigns s node nodes nodes seen seen
-  follows_closed nodes seen gone = follows_none nodes seen (λ x at entity. let no : None ≡ Some x = gone ∙ at in cc)
-
-  pub follows_person : (nodes : List Node) (seen : Sign → Bool) (one : OpenNode) → Some one ≡ listed_at s.nodes node → is_entity one.info ≡ false → FollowsSigns s node nodes nodes seen seen
-  follows_person nodes seen one is person = follows_none nodes seen
-      (λ x at entity. let no : false ≡ true = sym person ∙ ap (λ (y : OpenNode). is_entity y.info) (same_Some one x (is ∙ at)) ∙ entity in cc)
-
-  module _ (one : OpenNode) (is : Some one ≡ listed_at s.nodes node) (old new : List Node) (was now : Sign → Bool) (x : Expands s one (signs one) old new was now) where
-    alias_of : (n : Node) → is_like one (listed_at s.nodes n) ≡ true → Alias s node n
-    alias_of n h = go (listed_at s.nodes n) refl h
-      where
-        go : (o : Option OpenNode) → listed_at s.nodes n ≡ o → is_like one o ≡ true → Alias s node n
-        go None at e = let no : false ≡ true = e in absurd cc
-        go (Some two) at e = record { one = one; two = two; one_is = sym is; two_is = at; alike = e }
-
-    found : is_entity one.info ≡ true → (k : Sign) → Contains (signs one) k → ((y : OpenNode) → listed_at s.nodes y.node ≡ Some y → HasSign y k → are_alike one y ≡ true → Contains new y.node)
-        → (y : OpenNode) → listed_at s.nodes y.node ≡ Some y → HasSign y k → (y.node ≡ node) ⊎ Contains new y.node
-    found entity k own all y at has = elim (common_alike one y k (entity, own) has) [
-      | inl e ↦ inl (sym e ∙ (found_is s.nodes node one (sym is)).1)
-      | inr alike ↦ inr (all y at has alike)
-    ]
-
-    pub follows_entity : is_entity one.info ≡ true → FollowsSigns s node old new was now
-    follows_entity entity = record {
-      rest = x.rest;
-      begins = x.begins;
-      each = λ n h. alias_of n (x.alike n h);
-      stays = x.stays;
-      looked = λ y k at has. x.looked k (subst (λ (z : OpenNode). Contains (signs z) k) (sym (same_Some one y (is ∙ at))) has.1);
-      fresh = λ k h. elim (x.fresh k h) [ inl before ↦ inl before | inr own ↦ inr (found entity k own.0 own.1) ];
-    }
 
 -- ---- one node after the other
 
@@ -162,25 +110,28 @@ pub gathered_start : (s : Shown) (first node : Node) (before nodes : List Node) 
 gathered_start s first node before nodes seen empty is g unseen = record {
   own = g.every first (sym is);
   sound = λ b h. elim (grown_cases g b h) [ inl a ↦ absurd (none b (subst (λ (ns : List Node). Contains ns b) empty a)) | inr e ↦ ([], sym (e ∙ is)) ];
-  covered = λ k y seen_k. absurd (let no : false ≡ true = sym (unseen k) ∙ seen_k in cc);
-  signed = λ b x k h. absurd (none b h);
+  covered = λ k n seen_k. absurd (let no : false ≡ true = sym (unseen k) ∙ seen_k in cc);
+  signed = λ b k h. absurd (none b h);
 }
 
 pub gathered_more : (s : Shown) (first : Node) (next : ℕ) (node : Node) (a b : List Node) (was now : Sign → Bool) → next < length a → node ≡ get_or a next node → AreGathered s first next a was
-    → FollowsSigns s node a b was now → AreGathered s first (next + 1) b now
+    → Expands s (signs_in s node) a b was now → AreGathered s first (next + 1) b now
 gathered_more s first next node a b was now lt at g x = record {
   own = still first g.own;
   sound = λ n h. elim (Contains-append_cases a x.rest n (subst (λ (ns : List Node). Contains ns n) x.begins h)) [
     | inl o ↦ g.sound n o
-    | inr f ↦ let same = g.sound node own in same_more s first same.0 node n same.1 (x.each n f)
+    | inr f ↦
+        let m = x.signed n f in
+        let reached = g.sound node own in
+        elim (sharing s node n m.0 m.1 m.2) [
+          | inl e ↦ subst (λ (c : Node). Same s first c) e reached
+          | inr alias ↦ same_more s first reached.0 node n reached.1 alias
+        ]
   ];
-  covered = λ k y seen there has. elim (x.fresh k seen) [
-    | inl o ↦ still y.node (g.covered k y o there has)
-    | inr f ↦ elim (f y there has) [ inl e ↦ still y.node (subst (λ (n : Node). Contains a n) (sym e) own) | inr h ↦ h ]
-  ];
-  signed = λ n y k h there has. elim (Contains-take_more a next node n lt (subst (λ (xs : List Node). Contains xs n) (ap (λ (xs : List Node). take (next + 1) xs) x.begins ∙ take-append-le (next + 1) a x.rest (omega arith)) h)) [
-    | inl o ↦ x.stays k (g.signed n y k o there has)
-    | inr e ↦ x.looked y k (subst (λ (m : Node). listed_at s.nodes m ≡ Some y) (e ∙ sym at) there) has
+  covered = λ k n seen has. elim (x.fresh k seen) [ inl o ↦ still n (g.covered k n o has) | inr f ↦ f n has ];
+  signed = λ n k h has. elim (Contains-take_more a next node n lt (subst (λ (xs : List Node). Contains xs n) (ap (λ (xs : List Node). take (next + 1) xs) x.begins ∙ take-append-le (next + 1) a x.rest (omega arith)) h)) [
+    | inl o ↦ x.stays k (g.signed n k o has)
+    | inr e ↦ x.looked k (subst (λ (m : Node). Contains (signs_in s m) k) (e ∙ sym at) has)
   ];
 }
   where
@@ -205,24 +156,21 @@ two_nodes x y alike same =
     let no : true ≡ false = sym own ∙ apart x.node (share_identifier x.identifiers y.identifiers) in
     cc
 
--- Nodes that are aliases, where all signs of the node have been looked up, none before, and of each that was all entities that have it are among the nodes, but for the node, are its aliases.
-pub aliases_found : (s : Shown) (n : Node) (nodes : List Node) (was now : Sign → Bool) → ((k : Sign) → was k ≡ false) → ((b : Node) → Contains nodes b → Alias s n b)
-    → ((x : OpenNode) (k : Sign) → listed_at s.nodes n ≡ Some x → HasSign x k → now k ≡ true)
-    → ((k : Sign) → now k ≡ true → (was k ≡ true) ⊎ ((y : OpenNode) → listed_at s.nodes y.node ≡ Some y → HasSign y k → (y.node ≡ n) ⊎ Contains nodes y.node))
-    → IsDistinct same_node nodes → AreAliases s n nodes
-aliases_found s n nodes was now none each looked fresh once = record { each = λ b. (each b, there b); once = once }
+-- those that have a sign of the node, but for the node
+pub aliases_found : (s : Shown) (n : Node) (before class nodes : List Node) (was now : Sign → Bool) → before ≡ [] → ((k : Sign) → was k ≡ false) → Expands s (signs_in s n) before class was now
+    → ((b : Node) → Contains nodes b ↔ Contains class b × (b ≢ n)) → IsDistinct same_node nodes → AreAliases s n nodes
+aliases_found s n before class nodes was now empty none_seen x others once = record { each = λ b. (sound b, complete b); once = once }
   where
-    there : (b : Node) → Alias s n b → Contains nodes b
-    there b h =
-        let one = found_is s.nodes n h.one h.one_is in
-        let two = found_is s.nodes b h.two h.two_is in
-        let k = in_common h.one h.two h.alike in
-        let both = and_parts (is_entity h.one.info && is_entity h.two.info) (same_record h.one.node h.two.node || share_identifier h.one.identifiers h.two.identifiers && not (same_node h.one.node h.two.node)) h.alike in
-        let entities = and_parts (is_entity h.one.info) (is_entity h.two.info) both.0 in
-        elim (fresh k.0 (looked h.one k.0 h.one_is (entities.0, k.1))) [
-          | inl before ↦ absurd (let no : true ≡ false = sym before ∙ none k.0 in cc)
-          | inr all ↦ elim (all h.two (ap (listed_at s.nodes) two.1 ∙ h.two_is) (entities.1, k.2)) [
-            | inl same ↦ absurd (two_nodes h.one h.two h.alike (same ∙ sym one.1))
-            | inr found ↦ subst (λ (m : Node). Contains nodes m) two.1 found
-          ]
+    sound : (b : Node) → Contains nodes b → Alias s n b
+    sound b h =
+        let parts = (others b).0 h in
+        let m = x.signed b (subst (λ (ns : List Node). Contains ns b) (x.begins ∙ ap (λ (ns : List Node). ns ++ x.rest) empty) parts.0) in
+        elim (sharing s n b m.0 m.1 m.2) [ inl e ↦ absurd (parts.1 (sym e)) | inr alias ↦ alias ]
+
+    complete : (b : Node) → Alias s n b → Contains nodes b
+    complete b l =
+        let k = shared s n b l in
+        elim (x.fresh k.0 (x.looked k.0 k.1)) [
+          | inl before_is ↦ absurd (let no : true ≡ false = sym before_is ∙ none_seen k.0 in cc)
+          | inr all ↦ (others b).1 (all b k.2, λ e. two_nodes l.one l.two l.alike ((found_is s.nodes b l.two l.two_is).1 ∙ e ∙ sym (found_is s.nodes n l.one l.one_is).1))
         ]

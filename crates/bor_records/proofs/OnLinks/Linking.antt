@@ -1,6 +1,5 @@
 -- The link that a record makes, and those of some records one after the other.
-use Rattle.std.proofs.Common.{ℤ, ◌≡◌, ◌&&◌, ◌<◌, ◌+◌, ◌++◌, ℕ, List, [], ◌∷◌, Option, Some, None, length, drop, get_or, append-nil, append_assoc, sym, ap, ◌∙◌}
-use Rattle.std.specs.Prelude.{if◌then◌else◌}
+use Rattle.std.proofs.Common.{◌≡◌, ◌<◌, ◌+◌, ◌++◌, ℕ, List, [], ◌∷◌, Option, Some, None, length, drop, get_or, append-nil, append_assoc, sym, ap, ◌∙◌}
 use Rattle.std.specs.List.{cons_option, filter_map}
 use Rattle.std.proofs.lemmas.List.{at_drop_more}
 

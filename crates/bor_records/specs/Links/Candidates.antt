@@ -1,6 +1,6 @@
--- The results of candidates: links into a node, and nodes that are sought; for clauses of private
+-- The results of candidates: links into a node, and nodes that have a sign; for clauses of private
 -- functions alone.
-use Rattle.std.specs.Prelude.{◌≡◌, ℕ, ℤ, List, Contains, Bool, true, false, ◌&&◌, Option, Some}
+use Rattle.std.specs.Prelude.{◌≡◌, ℕ, ℤ, List, Contains, Bool, false, ◌&&◌, Option, Some}
 use Rattle.std.specs.Prelude.{None, option_and_then}
 use Rattle.bor_terms.specs.Texts.{is_same}
 use Rattle.bods_read.specs.declared.details.Details.{Details}
@@ -8,14 +8,13 @@ use Rattle.bods_read.specs.declared.details.Details.TheVariants as details
 use Rattle.bods_read.specs.declared.statement.Statement.{Statement}
 use Rattle.bor_records.specs.declared.row.Row.{Row}
 use Rattle.bor_records.specs.declared.links.node.Node.{Node}
-use Rattle.bor_records.specs.declared.links.node.OpenNode.{OpenNode}
 use Rattle.bor_records.specs.declared.links.node.Link.{Link}
 use Rattle.bor_records.specs.Links.Series.{open_at}
-use Rattle.bor_records.specs.Links.Shown.{Shown, is_identified, is_like, listed_at}
-use Rattle.bor_records.specs.declared.links.search.Sought.{Sought}
-use Rattle.bor_records.specs.declared.links.search.Sought.TheVariants as sought
+use Rattle.bor_records.specs.Links.Shown.{Shown}
+use Rattle.bor_records.specs.declared.links.sign.Sign.{Sign}
 use Rattle.bor_records.specs.Links.Answers.{only_into}
 use Rattle.bor_records.specs.Links.Rows.{nodes_of, link_in}
+use Rattle.bor_records.specs.Links.Signs.{signs_in}
 
 -- a relationship whose subject has the identifier
 abbrev pub names : List ℕ → Details → Bool
@@ -37,16 +36,10 @@ link_into day rows n r = only_into n (link_in day (nodes_of day rows) r)
 abbrev pub link_at : ℤ → List Row → Node → Node → Option Link
 link_at day rows n k = option_and_then (link_into day rows n) (open_at day k rows)
 
--- what is open of a record is what is sought
-abbrev pub is_sought : Sought → Option OpenNode → Bool
-is_sought (sought.Like one) o = is_like one.now o
-is_sought (sought.Identified identifier) o = is_identified identifier.now o
-
--- the candidate, where it is sought
-abbrev pub IsFound : Shown → Sought → Node → Node → Type 0
-IsFound s what candidate n = (n ≡ candidate) × (is_sought what (listed_at s.nodes n) ≡ true)
+-- the candidate, where it is an open entity that has the sign
+abbrev pub IsFound : Shown → Sign → Node → Node → Type 0
+IsFound s k candidate n = (n ≡ candidate) × Contains (signs_in s n) k
 
 -- one of the candidates that are
-abbrev pub IsFoundIn : Shown → Sought → List Node → Node → Type 0
-IsFoundIn s what candidates n =
-    Contains candidates n × (is_sought what (listed_at s.nodes n) ≡ true)
+abbrev pub IsFoundIn : Shown → Sign → List Node → Node → Type 0
+IsFoundIn s k candidates n = Contains candidates n × Contains (signs_in s n) k

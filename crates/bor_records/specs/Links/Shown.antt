@@ -1,6 +1,6 @@
 -- The open entities and persons that a source shows, and the links between them.
 use Rattle.std.specs.Prelude.{◌≡◌, ℕ, List, Bool, true, false, ◌&&◌, ◌||◌, not, Option, None, Some}
-use Rattle.std.specs.Prelude.{find, option_map}
+use Rattle.std.specs.Prelude.{find, option_map, option_and_then, if◌then◌else◌}
 use Rattle.std.specs.List.{list_any}
 use Rattle.bor_terms.specs.Texts.{is_same}
 use Rattle.bods_read.specs.declared.details.Identifier.{Identifier}
@@ -66,12 +66,10 @@ are_alike a b =
     && (same_record a.node b.node
     || share_identifier a.identifiers b.identifiers && not (same_node a.node b.node))
 
--- an open node is there, and is an entity that has the identifier
-abbrev pub is_identified : Identifier → Option OpenNode → Bool
-is_identified i None = false
-is_identified i (Some x) = has_identifier i x
+-- an entity's identifiers
+abbrev pub entity_identifiers : OpenNode → Option (List Identifier)
+entity_identifiers x = if is_entity x.info then Some x.identifiers else None
 
--- an open node is there, and is one step away
-abbrev pub is_like : OpenNode → Option OpenNode → Bool
-is_like one None = false
-is_like one (Some x) = are_alike one x
+-- those of the node, where it is listed as an entity
+abbrev pub identifiers_in : List OpenNode → Node → Option (List Identifier)
+identifiers_in nodes n = option_and_then entity_identifiers (listed_at nodes n)

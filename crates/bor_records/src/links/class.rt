@@ -1,7 +1,7 @@
 //! Nodes, each once: while all that stand for one entity are looked for, and once a list of them is
 //! made.
 
-ghost use Rattle.std.specs.Prelude.{◌≡◌, ◌↔◌, ◌<◌, ◌≤◌, ◌∷◌, [], IfOk, OnOk, IsTrue, Contains, length, slice_index_or};
+ghost use Rattle.std.specs.Prelude.{◌≡◌, ◌≢◌, ◌↔◌, ◌<◌, ◌≤◌, ◌∷◌, [], IfOk, OnOk, IsTrue, Contains, length, slice_index_or};
 ghost use Rattle.std.specs.List.{IsDistinct};
 ghost use Rattle.bor_records.specs.declared.links.node.Node.{Node};
 ghost use Rattle.bor_records.specs.Links.Nodes.{same_node};
@@ -86,6 +86,16 @@ impl Class {
             return Err(AllocError);
         }
         Ok(())
+    }
+
+    /// The nodes but for one.
+    pub fn into_others(self, node: &Node) -> Vec<Node>
+        ensures others { (n : Node) → Contains result.items n ↔ Contains self n × (n ≢ node.now) }
+        ensures distinct { IsDistinct same_node result.items }
+    {
+        let mut others = self.order;
+        others.retain(|other| *other != *node);
+        others
     }
 
     /// The nodes.

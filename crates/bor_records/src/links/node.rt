@@ -4,7 +4,7 @@ ghost use Rattle.std.specs.Prelude.{◌≡◌, IfOk, Some, refl};
 ghost use Rattle.std.specs.List.{list_any};
 ghost use Rattle.bor_records.specs.Links.Nodes.{node_cmp};
 ghost use Rattle.bor_records.specs.Links.Orders.{node_po, node_total, node_ties};
-ghost use Rattle.bor_records.specs.Links.Shown.{has_identifier, is_entity, are_alike, share_identifier, same_identifier, same_record};
+ghost use Rattle.bor_records.specs.Links.Shown.{is_entity, are_alike, share_identifier, same_identifier, same_record};
 
 use bods_read::{FreeText, Identifier};
 use bor_terms::{AgentName, Ident, Listed};
@@ -126,13 +126,6 @@ pub struct OpenNode {
 }
 
 impl OpenNode {
-    /// Whether it is an entity that has the identifier.
-    pub fn has_identifier(&self, identifier: &Identifier) -> bool
-        ensures { result ≡ has_identifier identifier.now self.now }
-    {
-        self.info.is_entity() && has_identifier(self.identifiers.as_slice(), identifier)
-    }
-
     /// Whether two open nodes stand for one entity by one step (this register's profile): two
     /// entities of one agent with equal record in different declarations, or two different ones
     /// that share an identifier of equal scheme and id.

@@ -1,20 +1,19 @@
 //! Which nodes stand for one entity with a node, which are one alias away from it, and which have
 //! an identifier: of records that are read by key.
 
-ghost use Rattle.std.specs.Prelude.{◌≡◌, ◌∷◌, [], true, Some, OnOk, if◌then◌else◌, map};
+ghost use Rattle.std.specs.Prelude.{◌≡◌, ◌↔◌, ◌∷◌, [], true, Contains, IsTrue, OnOk, if◌then◌else◌, map};
 ghost use Rattle.std.specs.BTreeSet.{contains};
 ghost use Rattle.std.specs.Ordering.{is_eq};
 ghost use Rattle.bor_records.specs.declared.links.sign.Sign.{Sign};
 ghost use Rattle.bor_records.specs.Reading.{ReadsSo};
-ghost use Rattle.bor_records.specs.Links.Alike.{Expands, FollowsSigns};
+ghost use Rattle.bor_records.specs.Links.Alike.{Expands};
 ghost use Rattle.bor_records.specs.Links.Answers.{AreAliases, AreDistinct, AreIdentified, AreSame};
-ghost use Rattle.bor_records.specs.Links.Candidates.{IsFound, IsFoundIn, is_sought};
+ghost use Rattle.bor_records.specs.Links.Candidates.{IsFound, IsFoundIn};
 ghost use Rattle.bor_records.specs.Links.Growth.{Grown};
-ghost use Rattle.bor_records.specs.Links.Shown.{listed_at};
-ghost use Rattle.bor_records.specs.Links.Signs.{by_identifier, sign_cmp, signs};
+ghost use Rattle.bor_records.specs.Links.Signs.{by_identifier, sign_cmp, signs_in};
 
 use crate::links::class::Class;
-use crate::links::node::{Node, OpenNode};
+use crate::links::node::Node;
 use crate::links::records::Records;
 use crate::links::sign::Sign;
 use bods_read::Identifier;
@@ -22,77 +21,68 @@ use std::alloc::{AllocError, Global};
 use std::collections::BTreeSet;
 use std::convert::AsSlice;
 
-// What is looked for among candidates.
-#[derive(Drop)]
-enum Sought<'a> {
-    // The entities that are alike.
-    Like(&'a OpenNode),
-    // Those that have the identifier.
-    Identified(&'a Identifier),
-}
-
-impl<'a> Sought<'a> {
-    fn is(&self, one: &OpenNode) -> bool
-        ensures { result ≡ is_sought self.now (Some one.now) }
-    {
-        match self {
-            Sought::Like(other) => other.is_alias(one),
-            Sought::Identified(identifier) => one.has_identifier(*identifier),
-        }
-    }
-}
-
-// Whether a record is open and sought.
-fn is_sought<R: Records>(
-    records: &mut R,
-    sought: &Sought,
-    candidate: &Node,
-) -> Result<bool, R::Fault>
-    ensures { ReadsSo R.reading records.old records.new result (λ m is.
-        is ≡ is_sought sought.now (listed_at (R.shown m).nodes candidate.now)) }
+// Whether a record is an open entity that has the sign.
+fn has_sign<R: Records>(records: &mut R, sign: &Sign, candidate: &Node) -> Result<bool, R::Fault>
+    ensures { ReadsSo R.reading records.old records.new result (λ m has.
+        IsTrue has ↔ Contains (signs_in (R.shown m) candidate.now) sign.now) }
 {
-    match records.open(candidate)? {
-        Some(one) => Ok(sought.is(&one)),
+    match records.identifiers(candidate)? {
+        Some(identifiers) => Ok(sign.is_of(candidate, identifiers.as_slice())),
         None => Ok(false),
     }
 }
 
-// Adds a candidate, where it is sought. One that is there isn't looked at again.
-fn add_if_sought<R: Records>(
+// Adds a candidate, where it is an open entity that has the sign. One that is there isn't looked at
+// again.
+fn add_if_signed<R: Records>(
     records: &mut R,
     alloc: Global,
-    found: &mut Class,
-    sought: &Sought,
+    class: &mut Class,
+    sign: &Sign,
     candidate: &Node,
 ) -> Result<(), R::Fault>
     ensures { ReadsSo R.reading records.old records.new result (λ m _.
-        Grown (IsFound (R.shown m) sought.now candidate.now) found.old found.new) }
+        Grown (IsFound (R.shown m) sign.now candidate.now) class.old class.new) }
 {
-    if found.has(candidate) {
+    if class.has(candidate) {
         return Ok(());
     }
-    if !is_sought(records, sought, candidate)? {
+    if !has_sign(records, sign, candidate)? {
         return Ok(());
     }
-    found.add(candidate.copy(alloc)?)?;
+    class.add(candidate.copy(alloc)?)?;
     Ok(())
 }
 
-// Adds those of the candidates that are sought.
-fn add_sought<R: Records>(
+// Adds those of the candidates that are open entities and have the sign.
+fn add_signed<R: Records>(
     records: &mut R,
     alloc: Global,
-    found: &mut Class,
-    sought: &Sought,
+    class: &mut Class,
+    sign: &Sign,
     candidates: &[Node],
 ) -> Result<(), R::Fault>
     ensures { ReadsSo R.reading records.old records.new result (λ m _.
-        Grown (IsFoundIn (R.shown m) sought.now candidates.now) found.old found.new) }
+        Grown (IsFoundIn (R.shown m) sign.now candidates.now) class.old class.new) }
 {
     for candidate in candidates {
-        add_if_sought(records, alloc, found, sought, candidate)?;
+        add_if_signed(records, alloc, class, sign, candidate)?;
     }
     Ok(())
+}
+
+// Adds all open entities that have the sign.
+fn add_all_signed<R: Records>(
+    records: &mut R,
+    alloc: Global,
+    class: &mut Class,
+    sign: &Sign,
+) -> Result<(), R::Fault>
+    ensures { ReadsSo R.reading records.old records.new result (λ m _.
+        Grown (λ n. Contains (signs_in (R.shown m) n) sign.now) class.old class.new) }
+{
+    let candidates = records.signed(sign)?;
+    add_signed(records, alloc, class, sign, candidates.as_slice())
 }
 
 // Notes that a sign has been looked up.
@@ -105,80 +95,48 @@ fn note(looked: &mut BTreeSet<Sign>, sign: Sign) -> Result<(), AllocError>
     Ok(())
 }
 
-// Adds the aliases of an entity that have a sign, unless it has been looked up.
-fn add_signed<R: Records>(
+// Adds all open entities that have the sign, unless it has been looked up.
+fn add_by_sign<R: Records>(
     records: &mut R,
     alloc: Global,
     class: &mut Class,
     looked: &mut BTreeSet<Sign>,
-    one: &OpenNode,
     sign: Sign,
 ) -> Result<(), R::Fault>
     ensures { ReadsSo R.reading records.old records.new result (λ m _.
-        Expands (R.shown m) one.now (sign ∷ []) class.old class.new
+        Expands (R.shown m) (sign ∷ []) class.old class.new
         (λ k. contains sign_cmp looked.old k) (λ k. contains sign_cmp looked.new k)) }
 {
     if looked.contains(&sign) {
         return Ok(());
     }
-    let candidates = records.signed(&sign)?;
-    add_sought(
-        records,
-        alloc,
-        class,
-        &Sought::Like(one),
-        candidates.as_slice(),
-    )?;
+    add_all_signed(records, alloc, class, &sign)?;
     note(looked, sign)?;
     Ok(())
 }
 
-// Adds the aliases of an entity that share one of its identifiers.
-fn add_identified<R: Records>(
+// Adds, in the same way, all that have one of the identifiers.
+fn add_by_identifiers<R: Records>(
     records: &mut R,
     alloc: Global,
     class: &mut Class,
     looked: &mut BTreeSet<Sign>,
-    one: &OpenNode,
     identifiers: &[Identifier],
 ) -> Result<(), R::Fault>
     ensures { ReadsSo R.reading records.old records.new result (λ m _.
-        Expands (R.shown m) one.now (map by_identifier identifiers.now) class.old class.new
+        Expands (R.shown m) (map by_identifier identifiers.now) class.old class.new
         (λ k. contains sign_cmp looked.old k) (λ k. contains sign_cmp looked.new k)) }
 {
     for identifier in identifiers {
         let sign = Sign::of_identifier(alloc, identifier)?;
-        add_signed(records, alloc, class, looked, one, sign)?;
+        add_by_sign(records, alloc, class, looked, sign)?;
     }
     Ok(())
 }
 
-// Adds the aliases of an entity that have one of its signs.
-fn add_signs<R: Records>(
-    records: &mut R,
-    alloc: Global,
-    class: &mut Class,
-    looked: &mut BTreeSet<Sign>,
-    one: &OpenNode,
-) -> Result<(), R::Fault>
-    ensures { ReadsSo R.reading records.old records.new result (λ m _.
-        Expands (R.shown m) one.now (signs one.now) class.old class.new
-        (λ k. contains sign_cmp looked.old k) (λ k. contains sign_cmp looked.new k)) }
-{
-    let sign = Sign::of_node(alloc, &one.node)?;
-    add_signed(records, alloc, class, looked, one, sign)?;
-    add_identified(
-        records,
-        alloc,
-        class,
-        looked,
-        one,
-        one.identifiers.as_slice(),
-    )
-}
-
-// Adds the aliases of a node by those of its signs that haven't been looked up.
-fn add_aliases<R: Records>(
+// Adds, in the same way, all that have one of the signs of a node: its aliases and the node, where
+// it is an open entity.
+fn add_by_node<R: Records>(
     records: &mut R,
     alloc: Global,
     class: &mut Class,
@@ -186,16 +144,15 @@ fn add_aliases<R: Records>(
     node: &Node,
 ) -> Result<(), R::Fault>
     ensures { ReadsSo R.reading records.old records.new result (λ m _.
-        FollowsSigns (R.shown m) node.now class.old class.new
+        Expands (R.shown m) (signs_in (R.shown m) node.now) class.old class.new
         (λ k. contains sign_cmp looked.old k) (λ k. contains sign_cmp looked.new k)) }
 {
-    let Some(one) = records.open(node)? else {
+    let Some(identifiers) = records.identifiers(node)? else {
         return Ok(());
     };
-    if !one.info.is_entity() {
-        return Ok(());
-    }
-    add_signs(records, alloc, class, looked, &one)
+    let sign = Sign::of_node(alloc, node)?;
+    add_by_sign(records, alloc, class, looked, sign)?;
+    add_by_identifiers(records, alloc, class, looked, identifiers.as_slice())
 }
 
 /// The nodes one alias away from a node, each once and in any order; none where the node isn't an
@@ -210,8 +167,8 @@ pub fn aliases<R: Records>(
 {
     let mut class = Class::new(alloc);
     let mut looked = BTreeSet::new(alloc);
-    add_aliases(records, alloc, &mut class, &mut looked, node)?;
-    Ok(class.into_nodes())
+    add_by_node(records, alloc, &mut class, &mut looked, node)?;
+    Ok(class.into_others(node))
 }
 
 /// All nodes that stand for one entity with a node, by finitely many aliases, each once and in any
@@ -226,7 +183,7 @@ pub fn same<R: Records>(records: &mut R, alloc: Global, node: &Node) -> Result<V
     let mut next = 0;
     while next < class.len() {
         let one = class.copy_at(next)?;
-        add_aliases(records, alloc, &mut class, &mut looked, &one)?;
+        add_by_node(records, alloc, &mut class, &mut looked, &one)?;
         next += 1;
     }
     Ok(class.into_nodes())
@@ -244,9 +201,7 @@ pub fn identified<R: Records>(
         → AreIdentified (R.shown m) identifier.now nodes.items) }
 {
     let sign = Sign::of_identifier(alloc, identifier)?;
-    let candidates = records.signed(&sign)?;
-    let mut found = Class::new(alloc);
-    let sought = Sought::Identified(identifier);
-    add_sought(records, alloc, &mut found, &sought, candidates.as_slice())?;
-    Ok(found.into_nodes())
+    let mut class = Class::new(alloc);
+    add_all_signed(records, alloc, &mut class, &sign)?;
+    Ok(class.into_nodes())
 }

@@ -1,7 +1,9 @@
 //! By what two open entities may be alike, so that the aliases of one are looked for among few.
 
-ghost use Rattle.std.specs.Prelude.{◌≡◌, IfOk};
-ghost use Rattle.bor_records.specs.Links.Signs.{by_record, by_identifier};
+ghost use Rattle.std.specs.Prelude.{◌≡◌, ◌↔◌, ◌&&◌, Contains, IfOk, IsTrue};
+ghost use Rattle.std.specs.List.{list_any};
+ghost use Rattle.bor_terms.specs.Texts.{is_same};
+ghost use Rattle.bor_records.specs.Links.Signs.{by_record, by_identifier, signs_with};
 
 use crate::links::node::Node;
 use bods_read::{FreeText, Identifier};
@@ -40,5 +42,32 @@ impl Sign {
             group: identifier.scheme.copy(alloc)?,
             of_record: false,
         })
+    }
+
+    fn names_record(&self, node: &Node) -> bool
+        ensures { result
+            ≡ (is_same self.now.name node.now.rec && is_same self.now.group node.now.agent) }
+    {
+        self.name.as_str() == node.rec.as_str() && self.group.as_str() == node.agent.as_str()
+    }
+
+    fn names_one(&self, identifiers: &[Identifier]) -> bool
+        ensures { result ≡ list_any
+            (λ i. is_same i.id self.now.name && is_same i.scheme self.now.group) identifiers.now }
+    {
+        identifiers
+            .iter()
+            .any(|one| one.id == self.name && one.scheme == self.group)
+    }
+
+    /// Whether an entity of this record, with these identifiers, has the sign.
+    pub fn is_of(&self, node: &Node, identifiers: &[Identifier]) -> bool
+        ensures { IsTrue result ↔ Contains (signs_with node.now identifiers.now) self.now }
+    {
+        if self.of_record {
+            self.names_record(node)
+        } else {
+            self.names_one(identifiers)
+        }
     }
 }

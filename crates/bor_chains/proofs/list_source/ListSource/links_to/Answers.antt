@@ -7,8 +7,7 @@ use Rattle.bor_records.specs.Links.Shown.{Shown}
 use Rattle.bor_records.specs.Links.Answers.{AreLinksInto}
 use Rattle.bor_chains.specs.Listing.{Listing}
 use Rattle.bor_chains.specs.Tables.{items_of, items_at, links_at}
-use Rattle.bor_chains.proofs.Beside.{into_told}
-use Rattle.bor_chains.proofs.Classes.{if_ok}
+use Rattle.bor_chains.proofs.Beside.{if_ok, into_told}
 use Rattle.bor_chains.proofs.list_source.ListSource.links_to.Goals as goal
 
 pub returns-in-Some : goal.returns-in-Some

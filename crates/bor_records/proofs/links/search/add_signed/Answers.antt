@@ -1,25 +1,23 @@
-use Rattle.std.proofs.Common.{List, refl, sym, subst, ◌∙◌}
-use Rattle.std.specs.BTreeSet.{contains}
+use Rattle.std.proofs.Common.{arith, List, subst}
+use Rattle.std.proofs.lemmas.List.{take_all}
 use Rattle.bor_records.specs.declared.links.node.Node.{Node}
-use Rattle.bor_records.specs.declared.links.search.Sought.TheVariants as sought
 use Rattle.bor_records.specs.Links.Candidates.{IsFoundIn}
 use Rattle.bor_records.specs.Links.Growth.{Grown}
-use Rattle.bor_records.specs.Links.Signs.{sign_cmp}
-use Rattle.bor_records.proofs.OnLinks.Aliasing.{expands_seen, expands_sign}
+use Rattle.bor_records.proofs.OnLinks.Signed.{found_more, found_none}
 use Rattle.bor_records.proofs.ReadingLaws.{read_next, read_so, unread, read_fails}
 use Rattle.bor_records.proofs.links.search.add_signed.Goals as goal
 
-pub returns-then-contains : goal.returns-then-contains
-returns-then-contains g c = unread g.met.R.Records.goes_on
-    (λ m. expands_seen (g.R.Records.shown m) c.args.one.now c.args.sign c.args.class.now (λ k. contains sign_cmp c.args.looked.now k) (sym c.contains.ensures ∙ c.if-contains.true))
+pub loop-candidate-init : goal.loop-candidate-init
+loop-candidate-init g c = unread g.met.R.Records.goes_on (λ m. found_none (g.R.Records.shown m) c.args.sign.now c.args.class.now)
+
+pub loop-candidate-preserved : goal.loop-candidate-preserved
+loop-candidate-preserved g c = read_so (read_next g.met.R.Records.goes_on c.loop-candidate.invariant c.in_ok-add_if_signed.ensures)
+    (λ m is.
+    found_more (g.R.Records.shown m) c.args.sign.now c.args.candidates.now c.loop-candidate.candidate-index c.candidate-item.result c.args.class.now c.loop-candidate.class c.add_if_signed.new.class (omega arith) c.candidate-item.is is.0 is.1)
 
 pub returns : goal.returns
-returns g c =
-    read_so (read_next g.met.R.Records.goes_on c.in_ok-candidates.ensures c.in_ok-add_sought.ensures)
-    (λ m is. expands_sign (g.R.Records.shown m) c.args.one.now c.args.sign (g.R.Nodes.AsSlice.items c.in_ok-candidates.candidates) c.args.class.now c.add_sought.new.found (λ k. contains sign_cmp c.args.looked.now k) (λ k. contains sign_cmp c.note.new.looked k) (sought.Like c.args.one) (λ o. refl)
-    is.0
-    (subst (λ (ns : List Node). Grown (IsFoundIn (g.R.Records.shown m) (sought.Like c.args.one) ns) c.args.class.now c.add_sought.new.found) c.as_slice.ensures is.1)
-    c.in_ok-note.ensures.others c.in_ok-note.ensures.sign)
+returns g c = read_so c.loop-candidate.invariant
+    (λ m is. subst (λ (ns : List Node). Grown (IsFoundIn (g.R.Records.shown m) c.args.sign.now ns) c.args.class.now c.loop-candidate.class) (take_all c.loop-candidate.candidate-index c.args.candidates.now (omega arith)) is)
 
-pub returns-in_err-add_sought : goal.returns-in_err-add_sought
-returns-in_err-add_sought g c = read_fails c.from_residual-in_err-add_sought.ensures.1 (read_next g.met.R.Records.goes_on c.in_ok-candidates.ensures c.in_err-add_sought.ensures)
+pub returns-in_err-add_if_signed : goal.returns-in_err-add_if_signed
+returns-in_err-add_if_signed g c = read_fails c.from_residual.ensures.1 (read_next g.met.R.Records.goes_on c.loop-candidate.invariant c.in_err-add_if_signed.ensures)

@@ -13,9 +13,9 @@ loop-next-init g c = unread g.met.R.Records.goes_on
     (λ k. empty_has sign_cmp c.new-looked.result k c.new-looked.ensures.empty))
 
 pub loop-next-preserved : goal.loop-next-preserved
-loop-next-preserved g c = read_so (read_next g.met.R.Records.goes_on c.loop-next.invariant c.in_ok-add_aliases.ensures)
+loop-next-preserved g c = read_so (read_next g.met.R.Records.goes_on c.loop-next.invariant c.in_ok-add_by_node.ensures)
     (λ m is.
-    gathered_more (g.R.Records.shown m) c.args.node.now c.loop-next.next c.in_ok-one.one c.loop-next.class c.add_aliases.new.class (λ k. contains sign_cmp c.loop-next.looked k) (λ k. contains sign_cmp c.add_aliases.new.looked k)
+    gathered_more (g.R.Records.shown m) c.args.node.now c.loop-next.next c.in_ok-one.one c.loop-next.class c.add_by_node.new.class (λ k. contains sign_cmp c.loop-next.looked k) (λ k. contains sign_cmp c.add_by_node.new.looked k)
     (omega arith) c.in_ok-one.ensures is.0 is.1)
 
 pub returns : goal.returns
@@ -24,5 +24,5 @@ returns g c = read_so c.loop-next.invariant
     reached_told (g.R.Records.shown m) c.args.node.now c.loop-next.next c.loop-next.class c.into_nodes.result.items c.into_nodes.ensures.same (omega arith)
     (gathered_reached (g.R.Records.shown m) c.args.node.now c.loop-next.next c.loop-next.class (λ k. contains sign_cmp c.loop-next.looked k) is) c.into_nodes.ensures.distinct)
 
-pub returns-in_err-add_aliases : goal.returns-in_err-add_aliases
-returns-in_err-add_aliases g c = read_fails c.from_residual-in_err-add_aliases.ensures.1 (read_next g.met.R.Records.goes_on c.loop-next.invariant c.in_err-add_aliases.ensures)
+pub returns-in_err-add_by_node : goal.returns-in_err-add_by_node
+returns-in_err-add_by_node g c = read_fails c.from_residual-in_err-add_by_node.ensures.1 (read_next g.met.R.Records.goes_on c.loop-next.invariant c.in_err-add_by_node.ensures)
