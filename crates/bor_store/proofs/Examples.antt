@@ -8,16 +8,18 @@ use Rattle.bor_terms.specs.Texts.{is_agent_name, is_lodge_key, is_token}
 use Rattle.bor_register.specs.Register.{Register, empty_register}
 use Rattle.bor_register.specs.declared.filing.AcceptedFiling.{AcceptedFiling}
 use Rattle.bor_desk.specs.Runs.{Asked, register_after}
-use Rattle.bor_desk.specs.declared.request.Request.TheVariants as ask
+use Rattle.bor_desk.specs.declared.request.Request.TheVariants as of
+use Rattle.bor_desk.specs.declared.request.AgentRequest.TheVariants as ask
+use Rattle.bor_desk.specs.declared.request.RegistrarRequest.TheVariants as office
 use Rattle.bor_store_sql.specs.Rows.Stored.{IsStored}
 use Rattle.bor_store.specs.Laws.{IsFormedRequest}
 use Rattle.bor_store.proofs.Stored.{legal_are_stored}
 
 enrolment : Asked
-enrolment = record { token = codes "registrar-token-0001"; request = ask.Enrol (codes "cedar") (codes "cedar-token-000001") }
+enrolment = record { token = codes "registrar-token-0001"; request = of.Registrar (office.Enrol (codes "cedar") (codes "cedar-token-000001")) }
 
 lodging : Asked
-lodging = record { token = codes "cedar-token-000001"; request = ask.Lodge (codes "f1") (pos 19754) (codes "[]") }
+lodging = record { token = codes "cedar-token-000001"; request = of.Agent (ask.Lodge (codes "f1") (pos 19754) (codes "[]")) }
 
 is_a_day : IsDay (pos 19754)
 is_a_day = (omega (arith, ints), omega (arith, ints))

@@ -21,7 +21,11 @@ use Rattle.bor_desk.specs.Operations.Lodging.{settled_reading, told_settled}
 use Rattle.bor_desk.specs.Runs.{Asked, exchange, register_after}
 use Rattle.bor_desk.specs.Step.{agent_step, registrar_step, step}
 use Rattle.bor_desk.specs.declared.request.Request.{Request}
-use Rattle.bor_desk.specs.declared.request.Request.TheVariants as ask
+use Rattle.bor_desk.specs.declared.request.Request.TheVariants as of
+use Rattle.bor_desk.specs.declared.request.AgentRequest.{AgentRequest}
+use Rattle.bor_desk.specs.declared.request.AgentRequest.TheVariants as ask
+use Rattle.bor_desk.specs.declared.request.RegistrarRequest.{RegistrarRequest}
+use Rattle.bor_desk.specs.declared.request.RegistrarRequest.TheVariants as office
 use Rattle.bor_desk.proofs.OnOperations.Forms.{stays_formed}
 use Rattle.bor_desk.proofs.OnOperations.Legality.{empty-legal}
 use Rattle.bor_desk.proofs.Steps.{step-stays_legal, written_back}
@@ -112,40 +116,23 @@ legal_stored r legal formed = record { ordered = legal.names; numbered = all_num
 reading_formed : (r : Register) (name : List ℕ) → IsFormed r → IsFormed (agent_step r name ask.Filings).register
 reading_formed r name formed = subst IsFormed (sym (written_back r name)) formed
 
-by_agent : (r : Register) (name : List ℕ) (request : Request) → IsFormed r → IsFormedRequest request → IsFormed (agent_step r name request).register
+by_agent : (r : Register) (name : List ℕ) (request : AgentRequest) → IsFormed r → IsFormedRequest (of.Agent request) → IsFormed (agent_step r name request).register
 by_agent r name (ask.Lodge key due file) formed is = stays_formed.by_lodging r name key due file formed is.0 is.1 is.2
 by_agent r name (ask.Withdraw key) formed is = stays_formed.by_withdrawal r name key formed
-by_agent r name ask.Filings formed is = reading_formed r name formed
-by_agent r name (ask.File key) formed is = reading_formed r name formed
-by_agent r name ask.Published formed is = reading_formed r name formed
-by_agent r name (ask.Snapshot agent declaration date) formed is = reading_formed r name formed
-by_agent r name (ask.Chains entity date) formed is = reading_formed r name formed
-by_agent r name (ask.Evidence entity date) formed is = reading_formed r name formed
-by_agent r name (ask.Entities identifier date) formed is = reading_formed r name formed
-by_agent r name (ask.Day date) formed is = reading_formed r name formed
-by_agent r name (ask.Enrol new token) formed is = reading_formed r name formed
-by_agent r name (ask.Renew other token) formed is = reading_formed r name formed
-by_agent r name ask.Register formed is = reading_formed r name formed
+by_agent r name request formed is = reading_formed r name formed
 
-by_registrar : (r : Register) (request : Request) → IsFormed r → IsFormedRequest request → IsFormed (registrar_step r request).register
-by_registrar r (ask.Day date) formed is = stays_formed.by_advance r date formed is
-by_registrar r (ask.Enrol name token) formed is = stays_formed.by_enrolment r name token formed is.0 is.1
-by_registrar r (ask.Renew name token) formed is = stays_formed.by_renewal r name token formed is
-by_registrar r ask.Register formed is = formed
-by_registrar r (ask.Lodge key due file) formed is = formed
-by_registrar r (ask.Withdraw key) formed is = formed
-by_registrar r ask.Filings formed is = formed
-by_registrar r (ask.File key) formed is = formed
-by_registrar r ask.Published formed is = formed
-by_registrar r (ask.Snapshot agent declaration date) formed is = formed
-by_registrar r (ask.Chains entity date) formed is = formed
-by_registrar r (ask.Evidence entity date) formed is = formed
-by_registrar r (ask.Entities identifier date) formed is = formed
+by_registrar : (r : Register) (request : RegistrarRequest) → IsFormed r → IsFormedRequest (of.Registrar request) → IsFormed (registrar_step r request).register
+by_registrar r (office.Day date) formed is = stays_formed.by_advance r date formed is
+by_registrar r (office.Enrol name token) formed is = stays_formed.by_enrolment r name token formed is.0 is.1
+by_registrar r (office.Renew name token) formed is = stays_formed.by_renewal r name token formed is
+by_registrar r office.Register formed is = formed
 
 by_step : (r : Register) (caller : Option Caller) (request : Request) → IsFormed r → IsFormedRequest request → IsFormed (step r caller request).register
 by_step r None request formed is = formed
-by_step r (Some Registrar) request formed is = by_registrar r request formed is
-by_step r (Some (Agent name)) request formed is = by_agent r name request formed is
+by_step r (Some Registrar) (of.Registrar request) formed is = by_registrar r request formed is
+by_step r (Some Registrar) (of.Agent request) formed is = formed
+by_step r (Some (Agent name)) (of.Agent request) formed is = by_agent r name request formed is
+by_step r (Some (Agent name)) (of.Registrar request) formed is = formed
 
 stored_after : (r : Register) (run : List Asked) → IsLegal r → IsFormed r → AreFormedRequests run → IsStored (register_after r run)
 stored_after r [] legal formed are = legal_stored r legal formed

@@ -8,18 +8,21 @@ use Rattle.bor_register.specs.Register.{Register, empty_register}
 use Rattle.bor_desk.specs.Operations.Legality.{IsLegal}
 use Rattle.bor_desk.specs.Runs.{Asked, register_after}
 use Rattle.bor_desk.specs.declared.request.Request.{Request}
-use Rattle.bor_desk.specs.declared.request.Request.TheVariants as ask
+use Rattle.bor_desk.specs.declared.request.Request.TheVariants as of
+use Rattle.bor_desk.specs.declared.request.AgentRequest.TheVariants as ask
+use Rattle.bor_desk.specs.declared.request.RegistrarRequest.TheVariants as office
 use Rattle.bor_store_sql.specs.Rows.Stored.{IsStored}
 use Rattle.bor_store_sql.specs.Shown.{HasFirst, first_contents}
 
 -- The values that a request brings into the register have the forms that their types ask for; of a
 -- file nothing is asked but that its bytes are bytes.
 abbrev pub IsFormedRequest : Request → Type 0
-IsFormedRequest (ask.Lodge key due file) =
+IsFormedRequest (of.Agent (ask.Lodge key due file)) =
     (is_lodge_key key ≡ true) × IsDay due × All (λ b. b < 256) file
-IsFormedRequest (ask.Day date) = IsDay date
-IsFormedRequest (ask.Enrol name token) = (is_agent_name name ≡ true) × (is_token token ≡ true)
-IsFormedRequest (ask.Renew name token) = is_token token ≡ true
+IsFormedRequest (of.Registrar (office.Day date)) = IsDay date
+IsFormedRequest (of.Registrar (office.Enrol name token)) =
+    (is_agent_name name ≡ true) × (is_token token ≡ true)
+IsFormedRequest (of.Registrar (office.Renew name token)) = is_token token ≡ true
 IsFormedRequest request = Unit {0}
 
 abbrev pub AreFormedRequests : List Asked → Type 0

@@ -3,7 +3,7 @@
 use crate::asking::{day, read};
 use crate::checks::{all_hold, holds};
 use bor_desk::operations::ListKeep;
-use bor_desk::{DeskReply, Request, answer};
+use bor_desk::{AgentRequest, DeskReply, RegistrarRequest, Request, answer};
 use bor_http::routes::{Paths, Route, allow_of, line_of, route_at};
 use bor_wire::rendering::{RESERVED, render_refusal};
 use bor_wire::{Counted, Outcome, Path, Refusal, exchange, message_in, parse, read_request};
@@ -17,14 +17,11 @@ fn the_page_of_the_desk(rt: HostRuntime) {
     let (day, name) = (day(&rt, "2024-02-01"), read(&rt, alloc, "alder"));
     let mut keep = ListKeep::new(alloc, registrar.copy(alloc).expect(&rt, "memory"), day);
     let token = alder.copy(alloc).expect(&rt, "memory");
-    let reply = answer(
-        alloc,
-        &mut keep,
-        &registrar,
-        &Request::Enrol { name, token },
-    );
+    let enrol = Request::Registrar(RegistrarRequest::Enrol { name, token });
+    let reply = answer(alloc, &mut keep, &registrar, &enrol);
     holds(&rt, "enrolled", matches!(&reply, DeskReply::Enrolled(_)));
-    let reply = answer(alloc, &mut keep, &alder, &Request::Published);
+    let published = Request::Agent(AgentRequest::Published);
+    let reply = answer(alloc, &mut keep, &alder, &published);
     let is_empty =
         matches!(&reply, DeskReply::Published(outwards) if outwards.as_slice().is_empty());
     holds(&rt, "published", is_empty);
@@ -64,7 +61,8 @@ fn the_page_of_what_a_request_asks(rt: HostRuntime) {
     let request = message_in(alloc, input).expect(&rt, "refused");
     let asking = parse(alloc, &request).expect(&rt, "refused");
     let is_alders = asking.token.as_str() == "alder-token-000001";
-    let told = [is_alders, matches!(asking.request, Request::Filings)];
+    let lists = matches!(asking.request, Request::Agent(AgentRequest::Filings));
+    let told = [is_alders, lists];
     all_hold(&rt, "told", &told);
 }
 
