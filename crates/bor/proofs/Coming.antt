@@ -4,8 +4,8 @@ use Rattle.sqlite.specs.State.{State}
 use Rattle.bor_register.specs.Register.{Register}
 use Rattle.bor_store_sql.specs.Rows.Encoding.{contents}
 use Rattle.bor_store_sql.specs.Shown.{Has, ShowsIn}
-use Rattle.bor_program.specs.declared.host.Origin.{Origin}
-use Rattle.bor_program.specs.declared.host.Origin.TheVariants.{Found, New}
+use Rattle.bor_program.specs.declared.host.opened.Origin.{Origin}
+use Rattle.bor_program.specs.declared.host.opened.Origin.TheVariants.{Found, New}
 
 pub not_new : (came : Origin) → came ≡ Found → came ≡ New → ⊥
 not_new came is new = let same : Found ≡ New = sym is ∙ new in cc

@@ -9,9 +9,9 @@ use Rattle.sqlite_wal.specs.Recovery.{Image}
 use Rattle.bor_register.specs.Register.{Register}
 use Rattle.bor_store.specs.Opening.{HoldsRegister, IsConnected}
 use Rattle.bor_program.specs.Deeds.{ComesToBe, Deed, Opens, SetsUp}
-use Rattle.bor_program.specs.declared.host.Opened.{Opened}
-use Rattle.bor_program.specs.declared.host.Origin.{Origin}
-use Rattle.bor_program.specs.declared.host.Origin.TheVariants.{Found, New}
+use Rattle.bor_program.specs.declared.host.opened.Opened.{Opened}
+use Rattle.bor_program.specs.declared.host.opened.Origin.{Origin}
+use Rattle.bor_program.specs.declared.host.opened.Origin.TheVariants.{Found, New}
 use Rattle.bor.specs.Machine.{ComesOpen, FindsOrSetsUp}
 
 pub told_ok : {A E F : Type 0} (P : A → Type 0) (of : E → F) (opened : Result A E) (told : Result A F) → MatchResult opened (λ x. told ≡ Ok x) (λ e. told ≡ Err (of e))

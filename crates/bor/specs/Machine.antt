@@ -11,8 +11,8 @@ use Rattle.bor_program.specs.Deeds.{Deed, Opens, SetsUp, Closes, Moves, Fails}
 use Rattle.bor_program.specs.declared.failure.Failure.{Failure}
 use Rattle.bor_program.specs.declared.failure.Failure.TheVariants.{NoRegister, OtherVersion, Taken}
 use Rattle.bor_program.specs.declared.failure.Failure.TheVariants.{Memory, Store}
-use Rattle.bor_program.specs.declared.host.Origin.{Origin}
-use Rattle.bor_program.specs.declared.host.Origin.TheVariants as origin
+use Rattle.bor_program.specs.declared.host.opened.Origin.{Origin}
+use Rattle.bor_program.specs.declared.host.opened.Origin.TheVariants as origin
 use Rattle.bor_store.specs.Opening.{HoldsRegister, IsConnected}
 use Rattle.bor_store.specs.declared.open_fault.OpenFault.{OpenFault}
 use Rattle.bor_store.specs.declared.open_fault.OpenFault.TheVariants as faults

@@ -19,8 +19,8 @@ use Rattle.bor_words.specs.declared.serve.Serve.{Serve as Asked}
 use Rattle.bor_words.specs.Asked.{IsAsked}
 use Rattle.bor_words.specs.Words.{Entered, file_at}
 use Rattle.bor_program.specs.Performing.{EndsSettingUp, Exchanges, InitsOnceTold, IsDoneOrFailed, Performs, Serves, PrintsRefusal, System, migrated}
-use Rattle.bor_program.specs.declared.host.Origin.{Origin}
-use Rattle.bor_program.specs.declared.host.Origin.TheVariants.{Found, New}
+use Rattle.bor_program.specs.declared.host.opened.Origin.{Origin}
+use Rattle.bor_program.specs.declared.host.opened.Origin.TheVariants.{Found, New}
 use Rattle.bor_program.specs.declared.registrar.Exchanging.{Exchanging}
 use Rattle.bor_program.specs.Program.{IsWrittenOrCutOff, report_status}
 use Rattle.bor_program.specs.Streams.{Known, Streams, TakesAtMostPart}

@@ -7,8 +7,8 @@ use Rattle.bor_register.specs.Register.{Register, empty_register}
 use Rattle.clap.specs.Words.{Text}
 use Rattle.bor_program.specs.Courses.{Course}
 use Rattle.bor_program.specs.declared.failure.Failure.{Failure}
-use Rattle.bor_program.specs.declared.host.Origin.{Origin}
-use Rattle.bor_program.specs.declared.host.Origin.TheVariants.{Found, New}
+use Rattle.bor_program.specs.declared.host.opened.Origin.{Origin}
+use Rattle.bor_program.specs.declared.host.opened.Origin.TheVariants.{Found, New}
 
 -- One deed, on the file of this name.
 pub data Deed (K : Type 0) : Type 0 where

@@ -1,32 +1,32 @@
 //! The program as a function of its words and its streams.
 
-ghost use Rattle.std.specs.Prelude.{◌≡◌, ◌≢◌, ◌≤◌, ◌⊎◌, ℕ, List, None, IfErr, IfSome, IsSome, OnOk, map};
+ghost use Rattle.std.specs.Prelude.{◌≡◌, ◌≢◌, ◌≤◌, ◌⊎◌, ℕ, List, IfSome, IsSome, map};
 ghost use Rattle.std.specs.Io.KnownBytes.{Appends, Keeps};
-ghost use Rattle.bor_words.specs.Asked.{IsAsked, IsCommand, IsWrong, MayAskForHelp, name_of};
+ghost use Rattle.bor_words.specs.Asked.{IsAsked, IsCommand, IsWrong, MayAskForHelp};
 ghost use Rattle.bor_words.specs.Help.{help_for};
 ghost use Rattle.bor_words.specs.Unread.{kind_of_answer};
 ghost use Rattle.bor_words.specs.Words.{entered_by};
 ghost use Rattle.bor_words.specs.declared.command.Command.{Command as Asked};
 ghost use Rattle.bor_program.specs.Connections.Streams.{EndedOn, wire_of};
-ghost use Rattle.bor_program.specs.Failures.{IsMetBy, IsMetOn, IsMetPrinting, IsFailureWritten, IsWantOfMemory};
+ghost use Rattle.bor_program.specs.Failures.{IsMetBy, IsMetPrinting, IsFailureWritten, IsWantOfMemory};
 ghost use Rattle.bor_program.specs.Hosting.{IsHosted, hosting_of};
 ghost use Rattle.bor_program.specs.Inputs.{IsReadOf};
-ghost use Rattle.bor_program.specs.Performing.{Checks, Performs, PrintsRefusal};
-ghost use Rattle.bor_program.specs.Program.{EndsReport, EndsReportOf, IfFile, IsReportedOf, IsReportedOrCutOff, exit_code};
-ghost use Rattle.bor_program.specs.Streams.{AppendsPart, TakesAtMostPart, TakesPart, part_limit, part_read, streams_of};
+ghost use Rattle.bor_program.specs.Performing.{Performs, PrintsRefusal};
+ghost use Rattle.bor_program.specs.Program.{IsReportedOrCutOff, exit_code};
+ghost use Rattle.bor_program.specs.Streams.{AppendsPart, TakesAtMostPart, TakesPart, part_read, streams_of};
 ghost use Rattle.bor_program.specs.Words.{AsksForCheck, ChecksInput, file_of};
 
 use crate::check::check;
 use crate::exchange::exchange;
 use crate::failure::Failure;
-use crate::host::{NamedFiles, Ports, Registers, Stage};
+use crate::host::{NamedFiles, Ports};
 use crate::init::init;
 use crate::migrate::migrate;
 use crate::output::{Output, write_text};
 use crate::report::report;
 use crate::serve::serve;
 use crate::status::Status;
-use bor_words::{Command, Source, Unread, help_for};
+use bor_words::{Command, Unread, help_for};
 use clap::error::ErrorKind;
 use std::convert::AsStr;
 use std::io::{Read, Write};
@@ -174,89 +174,12 @@ where
     ensures flushed { exit_code result ≤ 1 → O.is_flushed output.new }
 {
     match command {
-        Command::Check(source) => check_told(rt, host, source, input, output, errors),
+        Command::Check(source) => check(rt, host, source, input, output, errors),
         Command::Init(asked) => init(rt, host, asked, output, errors),
         Command::Exchange(asked) => exchange(rt, host, asked, output, errors),
         Command::Serve(asked) => serve(rt, host, asked, output, errors),
         Command::Report(asked) => report(rt.alloc(), host, &asked, output, errors),
         Command::Migrate(asked) => migrate(host, asked, output, errors),
-    }
-}
-
-// Checks what is asked for, and tells on standard error why it could not be done.
-fn check_told<R: NamedFiles + AllocGlobal, H: Registers, I: Read, O: Output, E: Write>(
-    rt: &R,
-    host: &H,
-    source: Source<'_>,
-    input: &mut I,
-    output: &mut O,
-    errors: &mut E,
-) -> Status
-    ensures done { Checks (IsReadOf (R.opens rt.now) R.File.remaining) source.entry
-        (I.remaining input.old) (I.remaining input.new)
-        (streams_of (O.contents output.old) (O.contents output.new)
-        (E.contents errors.old) (E.contents errors.new) (exit_code result)) }
-    ensures flushed { exit_code result ≤ 1 → O.is_flushed output.new }
-{
-    match check_source(rt, host, source, input, output) {
-        Ok(status) => status,
-        Err(failure) => failure.tell(errors),
-    }
-}
-
-// Checks standard input, of which the host tells whoever may have to type it, or the file that is
-// named.
-fn check_source<'a, R: NamedFiles + AllocGlobal, H: Registers, I: Read, O: Output>(
-    rt: &R,
-    host: &H,
-    source: Source<'a>,
-    input: &mut I,
-    output: &mut O,
-) -> Result<Status, Failure<'a>>
-    ensures report { (bytes : List ℕ)
-        × EndsReport bytes (O.contents output.old) (O.contents output.new) result }
-    ensures known { name_of source.entry ≡ None → IfSome (I.remaining input.old) (λ bytes.
-        EndsReport (part_read bytes) (O.contents output.old) (O.contents output.new) result) }
-    ensures of_file { IfFile (λ name.
-        EndsReportOf (IsReadOf (R.opens rt.now) R.File.remaining part_limit name)
-        (O.contents output.old) (O.contents output.new) result) source.entry }
-    ensures taken { name_of source.entry ≡ None
-        → OnOk result (TakesPart (I.remaining input.old) (I.remaining input.new)) }
-    ensures at_most { TakesAtMostPart (I.remaining input.old) (I.remaining input.new) }
-    ensures unread { IsSome (name_of source.entry)
-        → Keeps (I.remaining input.old) (I.remaining input.new) }
-    ensures flushed { OnOk result (O.is_flushed output.new) }
-    ensures err { IfErr result
-        (IsMetOn source.entry (O.contents output.old) (O.contents output.new)) }
-{
-    match source {
-        Source::StandardInput => {
-            host.reach(Stage::Input);
-            check(rt.alloc(), source, input, output)
-        }
-        Source::File(name) => check_file(rt, name, output),
-    }
-}
-
-// Opens the file of this name and checks it.
-fn check_file<'a, R: NamedFiles + AllocGlobal, O: Output>(
-    rt: &R,
-    name: &'a str,
-    output: &mut O,
-) -> Result<Status, Failure<'a>>
-    ensures report { (bytes : List ℕ)
-        × EndsReport bytes (O.contents output.old) (O.contents output.new) result }
-    ensures of_file { EndsReportOf
-        (IsReadOf (R.opens rt.now) R.File.remaining part_limit name.entry)
-        (O.contents output.old) (O.contents output.new) result }
-    ensures flushed { OnOk result (O.is_flushed output.new) }
-    ensures err { IfErr result (IsMetOn (Source.File name.entry)
-        (O.contents output.old) (O.contents output.new)) }
-{
-    let source = Source::File(name);
-    match rt.open_named(name) {
-        Ok(mut file) => check(rt.alloc(), source, &mut file, output),
-        Err(error) => Err(Failure::of_reading(source, &error)),
     }
 }
 

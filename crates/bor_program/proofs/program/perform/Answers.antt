@@ -3,7 +3,7 @@ use Rattle.bor_program.proofs.Ends.{keeps_same}
 use Rattle.bor_program.proofs.program.perform.Goals as goal
 
 pub returns-in-Check-clause-done : goal.returns-in-Check-clause-done
-returns-in-Check-clause-done g c = rw c.in-Check.is (refl, c.check_told.ensures.done)
+returns-in-Check-clause-done g c = rw c.in-Check.is (refl, c.check.ensures.done)
 
 pub returns-in-Init-clause-done : goal.returns-in-Init-clause-done
 returns-in-Init-clause-done g c = rw c.in-Init.is (keeps_same _, c.init.ensures.done)
