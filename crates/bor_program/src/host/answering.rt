@@ -1,6 +1,6 @@
 //! A kind of register that answers for itself.
 
-ghost use Rattle.std.specs.Prelude.{◌≡◌, ⊤, ℕ, IfErr, IfOk, OnErr, length, map};
+ghost use Rattle.std.specs.Prelude.{◌≡◌, ⊤, ℕ, List, IfErr, IfOk, OnErr, length, map};
 ghost use Rattle.bor_records.specs.Promises.{Kept, Meaning, Promised};
 ghost use Rattle.bor_register.specs.Register.{Register};
 ghost use Rattle.bor_register.specs.declared.fault.StoreFault.{StoreFault};
