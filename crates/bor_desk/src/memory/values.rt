@@ -1,6 +1,7 @@
 //! The values under a key of a map.
 
 ghost use Rattle.std.specs.Prelude.{◌≡◌, ◌++◌, ◌∷◌, [], IfOk, OnOk};
+ghost use Rattle.std.specs.Mem.{FitsInMemory};
 ghost use Rattle.bor_desk.specs.Memory.Indexed.{values_in};
 
 use std::alloc::{AllocError, Global};
@@ -15,8 +16,9 @@ pub(crate) enum Values<T> {
 }
 
 impl<T: Drop> Values<T> {
-    /// All of them.
+    /// All of them. A slice asks for a type whose values fit in memory, as all types here are.
     pub(crate) fn as_slice(&self) -> &[T]
+        requires { FitsInMemory T.row }
         ensures { result.now ≡ values_in self.now }
     {
         match self {
