@@ -27,6 +27,8 @@ ANY, LINE, SQL_LINE, LINK = 30, 0.11, 0.09, 200
 # A check works on gigabytes of small values. Its allocator, mimalloc, takes a twentieth less of its time where it makes
 # its room in one go and keeps what it was given.
 ALLOCATOR = {"MIMALLOC_ARENA_EAGER_COMMIT": "1", "MIMALLOC_PURGE_DELAY": "-1"}
+# What stands for the functions by which some kits share work between checkouts, where a kit has none of them.
+NOT_SHARED = {"share_work": lambda is_on: None, "take_rlib": lambda crate: False, "offer": lambda crate, stamp: None}
 ERRORS = sys.stderr
 
 
@@ -45,7 +47,9 @@ def toolchain():
     loader = importlib.machinery.SourceFileLoader("rt", os.path.realpath(path))
     module = importlib.util.module_from_spec(importlib.util.spec_from_loader("rt", loader))
     loader.exec_module(module)
-    # What checks in other checkouts on this machine kept of the same text is taken from there.
+    # What checks in other checkouts on this machine kept of the same text is taken from there, by an rt that shares it.
+    for name, instead in NOT_SHARED.items():
+        vars(module).setdefault(name, instead)
     module.share_work(True)
     module.rtlib.guarded()
     return module
