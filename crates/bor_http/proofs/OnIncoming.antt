@@ -1,6 +1,5 @@
 pub mod Steps
 pub mod BodyLines
-pub mod Bounds
 pub mod ByTable
 pub mod Gathered
 pub mod HeadLemmas

@@ -62,16 +62,16 @@ pub struct Note {
 }
 
 impl Note {
-    /// The note of the request in these bytes, which had this reply and this agent's token. No
-    /// memory is taken.
-    pub fn of(paths: &Paths, request: &[u8], agent: Option<AgentName>, reply: &Reply) -> Note
-        ensures asked { result.asked ≡ asked_of request.now }
+    /// The note of a request for this, which had this reply and this agent's token. No memory is
+    /// taken.
+    pub fn of(asked: Asked, agent: Option<AgentName>, reply: &Reply) -> Note
+        ensures asked { result.asked ≡ asked }
         ensures status { result.status ≡ status_sent reply.now }
         ensures bytes { result.bytes ≡ length (bytes_sent reply.now) }
         ensures agent { result.agent ≡ agent }
     {
         Note {
-            asked: asked_by(paths, request),
+            asked,
             status: reply.status(),
             bytes: reply.bytes().len() as u64,
             agent,

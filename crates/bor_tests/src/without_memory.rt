@@ -470,8 +470,8 @@ fn are_routes_found(paths: &Paths) -> bool {
 }
 
 fn are_notes_made(paths: &Paths, input: &[u8]) -> bool {
-    let line = b"GET /day HTTP/1.1\r\n";
-    let note = Note::of(paths, line, None, &Reply::unavailable());
+    let asked = asked_by(paths, b"GET /day HTTP/1.1\r\n");
+    let note = Note::of(asked, None, &Reply::unavailable());
     asked_by(paths, input) == Asked::Route(Route::File)
         && note.asked == Asked::Path(Path::Day)
         && note.status == 503

@@ -30,11 +30,11 @@ mod response;
 pub mod spelling;
 
 pub use crate::rendering::{UNAVAILABLE, render};
-pub use crate::spelling::{Asking, parse};
+pub use crate::spelling::{Asking, parse, spelled};
 pub use bor_http::incoming::{
     Counted, Name, Path, RawRequest, Refusal, WireFault, message_in, read_request,
 };
 pub use outcome::{Outcome, exchange};
 pub use replies::replay;
 pub use reply::Reply;
-pub use response::{Response, respond};
+pub use response::{Response, respond, respond_to};

@@ -1,10 +1,10 @@
 //! The reply to an input, and for whom it is.
 
-ghost use Rattle.std.specs.Prelude.{◌≡◌, ◌≢◌, ◌≤◌, [], Ok, IfSome, vec_capacity};
+ghost use Rattle.std.specs.Prelude.{◌≡◌, ◌≢◌, ◌≤◌, ℕ, List, [], Ok, IfSome, vec_capacity};
 ghost use Rattle.bor_records.specs.Promises.{Leaves, Promised};
 ghost use Rattle.bor_register.specs.Register.{caller_of};
 ghost use Rattle.bor_desk.specs.Outcomes.{IsOrderedFor, agent_of};
-ghost use Rattle.bor_wire.specs.Spelling.Spell.{asked_view};
+ghost use Rattle.bor_wire.specs.Spelling.Spell.{SpellsAs, asked_view};
 ghost use Rattle.bor_wire.specs.Rendering.Limits.{reserved};
 ghost use Rattle.bor_wire.specs.Rendering.Statuses.{desk_status};
 ghost use Rattle.bor_wire.specs.Inputs.{after};
@@ -19,7 +19,7 @@ use crate::reply::Reply;
 use crate::spelling::{Asking, Paths, spelled};
 use bor_desk::operations::Keep;
 use bor_desk::{Answered, DeskReply, answer_naming};
-use bor_http::incoming::{Refusal, WireFault};
+use bor_http::incoming::{Refusal, WireFault, message_in};
 use bor_terms::AgentName;
 use std::alloc::Global;
 
@@ -113,14 +113,19 @@ fn answered<K: Keep>(alloc: Global, keep: &mut K, asking: &Asking) -> Response
     }
 }
 
-/// Answers the request in these bytes, with a reply that stays in memory, and names the agent that
-/// is answered. A keep whose store has shut, or shuts meanwhile, answers a request with 503, if the
-/// store has returned what was written.
-pub fn respond<K: Keep>(alloc: Global, paths: &Paths, keep: &mut K, input: &[u8]) -> Response
-    ensures answers { Responds K.meaning keep.old keep.new input.now result.reply }
-    ensures agent { Promised K.meaning keep.old keep.new (λ r. NamesWhoAsks r input.now result) }
+/// Answers what an input spells, with a reply that stays in memory, and names the agent that is
+/// answered. The input's bytes may be let go before.
+pub fn respond_to<K: Keep>(
+    alloc: Global,
+    keep: &mut K,
+    asking: Result<Asking, WireFault>,
+) -> Response
+    ensures answers { (input : List ℕ) → SpellsAs input asking
+        → Responds K.meaning keep.old keep.new input result.reply }
+    ensures agent { (input : List ℕ) → SpellsAs input asking
+        → Promised K.meaning keep.old keep.new (λ r. NamesWhoAsks r input result) }
 {
-    match spelled(alloc, paths, input) {
+    match asking {
         Ok(asking) => answered(alloc, keep, &asking),
         Err(WireFault::Refused(refusal)) => Response {
             agent: None,
@@ -131,4 +136,14 @@ pub fn respond<K: Keep>(alloc: Global, paths: &Paths, keep: &mut K, input: &[u8]
             reply: Reply::unavailable(),
         },
     }
+}
+
+/// Answers the request in these bytes, as [`respond_to`] does. A keep whose store has shut, or
+/// shuts meanwhile, answers a request with 503, if the store has returned what was written.
+pub fn respond<K: Keep>(alloc: Global, paths: &Paths, keep: &mut K, input: &[u8]) -> Response
+    ensures answers { Responds K.meaning keep.old keep.new input.now result.reply }
+    ensures agent { Promised K.meaning keep.old keep.new (λ r. NamesWhoAsks r input.now result) }
+{
+    let asking = spelled(alloc, paths, message_in(alloc, input));
+    respond_to(alloc, keep, asking)
 }

@@ -10,7 +10,7 @@ use Rattle.bor_http.specs.Incoming.Refusals.{IsMessage}
 use Rattle.bor_http.specs.Incoming.Reading.{IsLost, IsReadInPart, SaysAll, TakesAtMost, TakesPiece}
 use Rattle.bor_http.specs.declared.incoming.fault.WireFault.{WireFault}
 use Rattle.bor_http.specs.declared.incoming.fault.WireFault.TheVariants.{Refused, Read, Memory}
-use Rattle.bor_http.proofs.OnIncoming.Bounds.{needs_within}
+use Rattle.bor_http.proofs.OnIncoming.ProgressLemmas.{needs_within}
 use Rattle.bor_http.proofs.OnIncoming.Laws.{message_follows}
 
 -- what is whole is what it is, whatever follows
@@ -30,7 +30,7 @@ not_reached needed count len is_whole both isnt same = elim (cases_lt count need
 -- and what is read is no more than that
 pub read_fits : (received more : List ℕ) (progress : Progress) → IsProgress received progress → length received < needs progress → length received + length more ≤ needs progress
     → length (received ++ more) ≤ request_limit
-read_fits received more progress known less within = omega (arith, length-append received more, within, needs_within received progress known less)
+read_fits received more progress known less within = omega (arith, length-append received more, within, needs_within received progress known)
 
 -- ---- one read more, where some of the request is missing
 

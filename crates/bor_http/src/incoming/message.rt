@@ -4,13 +4,13 @@ ghost use Rattle.std.specs.Prelude.{◌≡◌, ◌≤◌, IfOk};
 ghost use Rattle.std.specs.Option.{option_map};
 ghost use Rattle.bor_http.specs.Incoming.Head.{line_feeds, line_limit};
 ghost use Rattle.bor_http.specs.Incoming.Message.{only_value};
+ghost use Rattle.bor_http.specs.Incoming.Progress.{IsHeadOf};
 ghost use Rattle.bor_http.specs.Incoming.Reading.{IsReadAs};
 ghost use Rattle.bor_http.specs.Incoming.Steps.{AreWithin, HeadAnswers, parts_at};
 
 use crate::incoming::fault::{Refusal, WireFault};
 use crate::incoming::fields::{count_named, find_value};
-use crate::incoming::head::{has_few_lines, head_end_from};
-use crate::incoming::lengths::body_length;
+use crate::incoming::progress::Progress;
 use httparse::Status;
 use httparse::spans::{EMPTY_HEADER_SPAN, HeaderSpan, Span, parse_request};
 use std::alloc::Global;
@@ -28,6 +28,33 @@ pub(crate) struct HeadSpans {
     pub(crate) method: Span,
     pub(crate) target: Span,
     pub(crate) fields: Vec<HeaderSpan>,
+}
+
+/// A head that has come, taken apart: the request that it begins.
+#[derive(Drop)]
+pub struct MessageHead {
+    pub(crate) spans: HeadSpans,
+    // How many bytes it has.
+    pub(crate) len: usize,
+    // How many the request has: those of the head, and as many behind it as the head says.
+    pub(crate) needed: usize,
+}
+
+impl MessageHead {
+    /// The request in the bytes that begin with this head, or that it is cut short.
+    pub(crate) fn message<'a>(self, bytes: &'a [u8]) -> Result<RawRequest<'a>, WireFault>
+        requires { IsHeadOf bytes.now self }
+        ensures { IsReadAs bytes.now result }
+    {
+        if bytes.len() < self.needed {
+            return Err(WireFault::Refused(Refusal::CutShort));
+        }
+        Ok(RawRequest {
+            head: &bytes[..self.len],
+            body: &bytes[self.len..self.needed],
+            spans: self.spans,
+        })
+    }
 }
 
 /// Takes apart bytes that are to be one head and nothing else.
@@ -123,25 +150,5 @@ impl<'a> RawRequest<'a> {
 pub fn message_in<'a>(alloc: Global, input: &'a [u8]) -> Result<RawRequest<'a>, WireFault>
     ensures reading { IsReadAs input.now result }
 {
-    let front = &input[..HEAD_LIMIT.min(input.len())];
-    let Some(len) = head_end_from(front, 0) else {
-        if input.len() < HEAD_LIMIT {
-            return Err(WireFault::Refused(Refusal::CutShort));
-        }
-        return Err(WireFault::Refused(Refusal::HeadTooLarge));
-    };
-    let (head, behind) = input.split_at(len);
-    if !has_few_lines(head) {
-        return Err(WireFault::Refused(Refusal::HeadTooLarge));
-    }
-    let spans = parse_head(alloc, head)?;
-    let wanted = body_length(head, &spans.fields)?;
-    if behind.len() < wanted {
-        return Err(WireFault::Refused(Refusal::CutShort));
-    }
-    Ok(RawRequest {
-        head,
-        spans,
-        body: &behind[..wanted],
-    })
+    Progress::none().message(alloc, input)
 }

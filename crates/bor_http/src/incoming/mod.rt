@@ -32,7 +32,7 @@ mod split;
 
 pub use counted::Counted;
 pub use fault::{Name, Path, Refusal, WireFault};
-pub use message::{RawRequest, message_in};
+pub use message::{MessageHead, RawRequest, message_in};
 pub use progress::Progress;
 pub use request::read_request;
 pub use sending::send;

@@ -1,24 +1,26 @@
 //! How much of a request has come, so that no byte of it is looked at twice.
 
 ghost use Rattle.std.specs.Prelude.{◌≡◌, ◌≤◌, ◌-◌, ◌↔◌, ℕ, List, Some, IfOk, IsTrue, length};
-ghost use Rattle.bor_http.specs.declared.incoming.progress.Progress.TheVariants.{Needs, Searched};
+ghost use Rattle.bor_http.specs.declared.incoming.progress.Progress.TheVariants.{Searched};
 ghost use Rattle.bor_http.specs.Incoming.Head.{head_len, head_limit};
-ghost use Rattle.bor_http.specs.Incoming.Progress.{IsProgress, IsWhole, needs};
+ghost use Rattle.bor_http.specs.Incoming.Progress.{IsProgress, IsSearched, IsWhole, needs};
+ghost use Rattle.bor_http.specs.Incoming.Reading.{IsReadAs};
 
-use crate::incoming::fault::WireFault;
+use crate::incoming::fault::{Refusal, WireFault};
 use crate::incoming::head::{has_few_lines, head_end_from};
 use crate::incoming::lengths::body_length;
-use crate::incoming::message::{HEAD_LIMIT, parse_head};
+use crate::incoming::message::{HEAD_LIMIT, MessageHead, RawRequest, parse_head};
 use std::alloc::{AllocError, Global};
 
 /// How much of a request has come.
-#[derive(Clone, Copy, PartialEq, Eq)]
+#[derive(Drop)]
 pub enum Progress {
     /// No head ends within so many bytes at its front, below 16,384.
     Searched(usize),
-    /// It is whole once there are so many bytes: its head and its body, or those for which it is
-    /// refused.
-    Needs(usize),
+    /// It is refused so for what has come, whatever follows.
+    Refused(Refusal),
+    /// Its head has come, and was taken apart.
+    Headed(MessageHead),
 }
 
 impl Progress {
@@ -30,76 +32,94 @@ impl Progress {
         Progress::Searched(0)
     }
 
-    /// The progress on these bytes, from the progress that was known before; before a head was
-    /// found there are at most 16,384 of them.
+    /// The progress on these bytes, from the progress that was known before.
     ///
     /// # Errors
     ///
     /// There is no memory for taking the head apart.
     pub fn after(self, alloc: Global, bytes: &[u8]) -> Result<Progress, AllocError>
-        requires known { IsProgress bytes.now self }
-        requires within { length bytes.now ≤ needs self }
+        requires { IsProgress bytes.now self }
         ensures known { IfOk result (IsProgress bytes.now) }
+        ensures searched { IfOk result (IsSearched (length bytes.now)) }
         ensures whole { IfOk result (λ progress.
             (needs progress ≤ length bytes.now) ↔ IsWhole bytes.now) }
     {
         match self {
-            Progress::Searched(count) => search(alloc, bytes, count),
-            Progress::Needs(_) => Ok(self),
+            Progress::Searched(count) => {
+                search(alloc, &bytes[..HEAD_LIMIT.min(bytes.len())], count)
+            }
+            Progress::Refused(why) => Ok(Progress::Refused(why)),
+            Progress::Headed(head) => Ok(Progress::Headed(head)),
         }
     }
 
     /// Whether so many bytes are known to be whole.
-    pub fn is_whole(self, count: usize) -> bool
-        ensures { IsTrue result ↔ (needs self ≤ count) }
+    pub fn is_whole(&self, count: usize) -> bool
+        ensures { IsTrue result ↔ (needs self.now ≤ count) }
     {
         self.wanted(count) == 0
     }
 
     /// How many more bytes may be read where so many have come.
-    pub fn wanted(self, count: usize) -> usize
-        ensures { result ≡ needs self - count }
+    pub fn wanted(&self, count: usize) -> usize
+        ensures { result ≡ needs self.now - count }
     {
         match self {
             Progress::Searched(_) => HEAD_LIMIT.saturating_sub(count),
-            Progress::Needs(needed) => needed.saturating_sub(count),
+            Progress::Refused(_) => 0,
+            Progress::Headed(head) => head.needed.saturating_sub(count),
+        }
+    }
+
+    /// The request that these bytes begin with, where so much of it was known before: as
+    /// [`message_in`](crate::incoming::message_in) gives it.
+    pub fn message<'a>(self, alloc: Global, bytes: &'a [u8]) -> Result<RawRequest<'a>, WireFault>
+        requires { IsProgress bytes.now self }
+        ensures { IsReadAs bytes.now result }
+    {
+        match self.after(alloc, bytes)? {
+            Progress::Searched(_) => Err(WireFault::Refused(Refusal::CutShort)),
+            Progress::Refused(why) => Err(WireFault::Refused(why)),
+            Progress::Headed(head) => head.message(bytes),
         }
     }
 }
 
-// Looks for the end of the head, behind as many bytes as were searched.
-fn search(alloc: Global, bytes: &[u8], searched: usize) -> Result<Progress, AllocError>
-    requires known { IsProgress bytes.now (Searched searched) }
-    requires within { length bytes.now ≤ head_limit }
-    ensures known { IfOk result (IsProgress bytes.now) }
-    ensures whole { IfOk result (λ progress.
-        (needs progress ≤ length bytes.now) ↔ IsWhole bytes.now) }
+// Looks for the end of the head in the bytes that may be one, behind as many as were searched.
+fn search(alloc: Global, front: &[u8], searched: usize) -> Result<Progress, AllocError>
+    requires known { IsProgress front.now (Searched searched) }
+    requires within { length front.now ≤ head_limit }
+    ensures known { IfOk result (IsProgress front.now) }
+    ensures searched { IfOk result (IsSearched (length front.now)) }
 {
-    match head_end_from(bytes, searched.saturating_sub(2)) {
-        Some(len) => Ok(Progress::Needs(needed(alloc, bytes, len)?)),
-        None if bytes.len() < HEAD_LIMIT => Ok(Progress::Searched(bytes.len())),
-        None => Ok(Progress::Needs(HEAD_LIMIT)),
+    match head_end_from(front, searched.saturating_sub(2)) {
+        Some(len) => taken_apart(alloc, front, len),
+        None if front.len() < HEAD_LIMIT => Ok(Progress::Searched(front.len())),
+        None => Ok(Progress::Refused(Refusal::HeadTooLarge)),
     }
 }
 
-// How many bytes a request has whose head is the first `len` of these; or those, where it is
-// refused for its head.
-fn needed(alloc: Global, bytes: &[u8], len: usize) -> Result<usize, AllocError>
-    requires head { head_len bytes.now ≡ Some len }
-    requires within { length bytes.now ≤ head_limit }
-    ensures { IfOk result (λ count. IsProgress bytes.now (Needs count)) }
+// The progress on bytes of which the first `len` are a head.
+fn taken_apart(alloc: Global, front: &[u8], len: usize) -> Result<Progress, AllocError>
+    requires head { head_len front.now ≡ Some len }
+    requires within { length front.now ≤ head_limit }
+    ensures known { IfOk result (IsProgress front.now) }
+    ensures searched { IfOk result (IsSearched (length front.now)) }
 {
-    let head = &bytes[..len];
+    let head = &front[..len];
     if !has_few_lines(head) {
-        return Ok(len);
+        return Ok(Progress::Refused(Refusal::HeadTooLarge));
     }
     let spans = match parse_head(alloc, head) {
         Ok(spans) => spans,
-        Err(WireFault::Refused(_)) => return Ok(len),
+        Err(WireFault::Refused(why)) => return Ok(Progress::Refused(why)),
         Err(_) => return Err(AllocError),
     };
     match body_length(head, &spans.fields) {
-        Ok(body) => Ok(len + body),
-        Err(_) => Ok(len),
+        Ok(body) => {
+            let needed = len + body;
+            Ok(Progress::Headed(MessageHead { spans, len, needed }))
+        }
+        Err(why) => Ok(Progress::Refused(why)),
     }
 }

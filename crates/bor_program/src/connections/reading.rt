@@ -10,8 +10,8 @@ ghost use Rattle.bor_program.specs.Connections.Streams.{Came, IsBlocked, IsReadi
 
 use bor_http::incoming::Progress;
 use std::alloc::{AllocError, Global};
-use std::io;
 use std::io::{ErrorKind, Read};
+use std::{io, mem};
 
 // The most bytes that are read at once.
 const PART: usize = 16_384;
@@ -67,6 +67,7 @@ impl<S: Read> Reading<S> {
             IsReading S.remaining self.new.stream self.new.received.items self.new.progress }
         ensures whole { result ≡ Whole
             → IsWhole self.new.received.items ⊎ IsAtEnd (S.remaining self.new.stream) }
+        ensures known { result ≡ Whole → IsProgress self.new.received.items self.new.progress }
         ensures on { length self.old.received.items ≤ length self.new.received.items }
         ensures more { result ≡ More
             → length self.old.received.items < length self.new.received.items }
@@ -88,7 +89,6 @@ impl<S: Read> Reading<S> {
     fn look(&mut self, alloc: Global) -> Taken
         requires came { Came S.remaining self.old.stream self.old.received.items }
         requires known { IsProgress self.old.received.items self.old.progress }
-        requires within { length self.old.received.items ≤ needs self.old.progress }
         requires fits { length self.old.received.items ≤ request_limit }
         ensures came { Came S.remaining self.new.stream self.new.received.items }
         ensures all { KeepsAll S.remaining self.old.stream self.old.received.items
@@ -97,14 +97,16 @@ impl<S: Read> Reading<S> {
         ensures held { (result ≡ More) ⊎ ((result ≡ Blocked) ⊎ (result ≡ Failed)) →
             IsReading S.remaining self.new.stream self.new.received.items self.new.progress }
         ensures whole { result ≡ Whole → IsWhole self.new.received.items }
+        ensures known { result ≡ Whole → IsProgress self.new.received.items self.new.progress }
         ensures same { self.new.received.items ≡ self.old.received.items }
         ensures judged { result ≢ Blocked }
     {
-        let Ok(progress) = self.progress.after(alloc, &self.received) else {
+        let known = mem::replace(&mut self.progress, Progress::none());
+        let Ok(progress) = known.after(alloc, &self.received) else {
             return Taken::Unfit;
         };
         self.progress = progress;
-        if progress.is_whole(self.received.len()) {
+        if self.progress.is_whole(self.received.len()) {
             Taken::Whole
         } else {
             Taken::More

@@ -1,14 +1,17 @@
 //! The service that answers requests: the register's desk, behind the paths that there are.
 
-ghost use Rattle.std.specs.Prelude.{◌≡◌, [], false};
+ghost use Rattle.std.specs.Prelude.{◌≡◌, [], false, true};
 ghost use Rattle.bor_records.specs.Promises.{Promised};
+ghost use Rattle.bor_http.specs.Incoming.Progress.{IsProgress};
 ghost use Rattle.bor_wire.specs.Answering.{Responds};
-ghost use Rattle.bor_program.specs.Logging.{IsNoteOf, MayNote};
+ghost use Rattle.bor_wire.specs.Spelling.Spell.{SpellsAs};
+ghost use Rattle.bor_program.specs.Logging.{IsNoteOf, MayNote, asked_of};
 
-use crate::log::Note;
+use crate::log::{Asked, Note, asked_by};
 use bor_desk::operations::Keep;
+use bor_http::incoming::{Progress, WireFault};
 use bor_wire::spelling::Paths;
-use bor_wire::{Reply, Response, respond};
+use bor_wire::{Asking, Reply, Response, respond_to, spelled};
 use std::alloc::Global;
 use std::mem;
 
@@ -43,11 +46,17 @@ impl Service {
         self.alloc
     }
 
-    /// Answers the request in these bytes.
-    pub(crate) fn respond<K: Keep>(&mut self, keep: &mut K, request: &[u8]) -> Reply
-        ensures answers { Responds K.meaning keep.old keep.new request.now result }
+    /// Answers the request in these bytes, of which so much is known.
+    pub(crate) fn respond<K: Keep>(
+        &mut self,
+        keep: &mut K,
+        received: Vec<u8>,
+        progress: Progress,
+    ) -> Reply
+        requires { IsProgress received.items progress }
+        ensures answers { Responds K.meaning keep.old keep.new received.items result }
         ensures noted { MayNote (IsNoteOf
-            (Promised K.meaning keep.old keep.new) request.now result)
+            (Promised K.meaning keep.old keep.new) received.items result)
             self.old.notes.items self.new.notes.items }
         ensures silent { self.old.is_noting ≡ false
             → self.new.notes.items ≡ self.old.notes.items }
@@ -57,14 +66,36 @@ impl Service {
         }
         match &self.paths {
             Some(paths) => {
-                let Response { agent, reply } = respond(self.alloc, paths, keep, request);
+                let (asking, asked) = self.asking_in(paths, received, progress);
+                let Response { agent, reply } = respond_to(self.alloc, keep, asking);
                 if self.is_noting {
-                    let _ = self.notes.push(Note::of(paths, request, agent, &reply));
+                    let _ = self.notes.push(Note::of(asked, agent, &reply));
                 }
                 reply
             }
             None => Reply::unavailable(),
         }
+    }
+
+    // What these bytes spell and, where it is noted, what the log says of them. They are let go, so
+    // that the body of a request is in memory once while the desk answers.
+    fn asking_in(
+        &self,
+        paths: &Paths,
+        received: Vec<u8>,
+        progress: Progress,
+    ) -> (Result<Asking, WireFault>, Asked)
+        requires { IsProgress received.items progress }
+        ensures spells { SpellsAs received.items result.0 }
+        ensures asked { self.now.is_noting ≡ true → result.1 ≡ asked_of received.items }
+    {
+        let asked = if self.is_noting {
+            asked_by(paths, &received)
+        } else {
+            Asked::Nothing
+        };
+        let asking = spelled(self.alloc, paths, progress.message(self.alloc, &received));
+        (asking, asked)
     }
 
     /// The notes of the requests that were answered since this was last asked.

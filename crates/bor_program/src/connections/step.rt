@@ -20,6 +20,7 @@ use bor_desk::operations::Keep;
 use bor_wire::Reply;
 use std::io::{Read, Write};
 use std::net::OpenStream;
+use std::snapshot::Snapshot;
 use std::time::Duration;
 
 // How many steps a client may have in one turn.
@@ -70,11 +71,19 @@ fn read_on<K: Keep, S: Read + Write + OpenStream + Drop>(
         Taken::More => Step::Goes(Phase::Reading(reading), Pace::Moved),
         Taken::Blocked => Step::Goes(Phase::Reading(reading), Pace::Blocked),
         Taken::Whole => {
-            let reply = service.respond(keep, &reading.received);
-            Step::Goes(Phase::Writing(Writing::new(reading, reply)), Pace::Turned)
+            let Reading {
+                stream,
+                received,
+                progress,
+            } = reading;
+            let request = Snapshot::of(&received);
+            let reply = service.respond(keep, received, progress);
+            let writing = Writing::new(stream, request, reply);
+            Step::Goes(Phase::Writing(writing), Pace::Turned)
         }
         Taken::Unfit => {
-            let writing = Writing::new(reading, Reply::unavailable());
+            let request = Snapshot::of(&reading.received);
+            let writing = Writing::new(reading.stream, request, Reply::unavailable());
             Step::Goes(Phase::Writing(writing), Pace::Turned)
         }
         Taken::Failed => Step::Ends(Phase::Reading(reading)),

@@ -10,7 +10,7 @@ ghost use Rattle.bor_program.specs.Connections.Streams.{Came, Drops, IsDraining,
 ghost use Rattle.bor_program.specs.Connections.Times.{IsReplyLeft, IsSlow, begun, taking_after};
 
 use crate::connections::limits::Limits;
-use crate::connections::reading::{Reading, is_blocked};
+use crate::connections::reading::is_blocked;
 use crate::connections::taking::Taking;
 use bor_wire::Reply;
 use std::io::{Read, Write};
@@ -75,23 +75,20 @@ pub(crate) enum Written {
 }
 
 impl<S: Read + Write + OpenStream> Writing<S> {
-    /// A client whose request has come, and of whose reply nothing was written. The bytes of the
-    /// request are let go.
-    pub(crate) fn new(reading: Reading<S>, reply: Reply) -> Writing<S>
-        requires came { Came S.remaining reading.stream reading.received.items }
-        requires fits { length reading.received.items ≤ request_limit }
-        requires ready { IsReady S.remaining reading.stream
-            (given_reply reading.received.items reply) }
+    /// A client whose request has come, and of whose reply nothing was written.
+    pub(crate) fn new(stream: S, request: Snapshot<Vec<u8>>, reply: Reply) -> Writing<S>
+        requires came { Came S.remaining stream request.value.items }
+        requires fits { length request.value.items ≤ request_limit }
+        requires ready { IsReady S.remaining stream (given_reply request.value.items reply) }
         ensures held { IsWriting (wire_of S.remaining S.contents) result.stream
             (given_reply result.request.value.items result.reply) result.sent }
-        ensures request { result.request.value.items ≡ reading.received.items }
+        ensures request { result.request ≡ request }
         ensures reply { result.reply ≡ reply }
         ensures taking { result.taking ≡ None }
         ensures nothing { result.sent ≡ 0 }
     {
-        let request = Snapshot::of(&reading.received);
         Writing {
-            stream: reading.stream,
+            stream,
             request,
             reply,
             sent: 0,

@@ -1,4 +1,6 @@
 //! The request of a message, and the token of whoever asks.
+ghost use Rattle.std.specs.Prelude.{ℕ, List};
+ghost use Rattle.bor_http.specs.Incoming.Reading.{IsReadAs};
 ghost use Rattle.bor_wire.specs.Spelling.Spell.{SpellsAs, asked_view, spell};
 ghost use Rattle.bor_wire.specs.Spelling.Query.{pair_texts};
 ghost use Rattle.bor_wire.specs.Spelling.Steps.{FindsStated, enrolment_by_steps, identifier_by_steps, lodging_by_steps, node_by_steps, renewal_by_steps, request_by_steps, snapshot_by_steps};
@@ -10,7 +12,7 @@ use crate::spelling::token::{new_token, token_at};
 use bods_read::Identifier;
 use bor_chains::Node;
 use bor_desk::{AgentRequest, RegistrarRequest, Request};
-use bor_http::incoming::{Name, RawRequest, Refusal, WireFault, message_in, split_at_first};
+use bor_http::incoming::{Name, RawRequest, Refusal, WireFault, split_at_first};
 use bor_http::routes::{Paths, Route, route_at};
 use bor_terms::{Listed, Token};
 use std::alloc::Global;
@@ -162,10 +164,13 @@ pub fn parse_by(alloc: Global, paths: &Paths, raw: &RawRequest<'_>) -> Result<As
 }
 
 /// The request that a whole input spells, with the token of whoever asks, or the first refusal of
-/// all; by paths that were made before.
-pub(crate) fn spelled(alloc: Global, paths: &Paths, input: &[u8]) -> Result<Asking, WireFault>
-    ensures { SpellsAs input.now result }
+/// all, where the input is this message; by paths that were made before.
+pub fn spelled(
+    alloc: Global,
+    paths: &Paths,
+    message: Result<RawRequest<'_>, WireFault>,
+) -> Result<Asking, WireFault>
+    ensures { (input : List ℕ) → IsReadAs input message.entry → SpellsAs input result }
 {
-    let raw = message_in(alloc, input)?;
-    parse_by(alloc, paths, &raw)
+    parse_by(alloc, paths, &message?)
 }

@@ -18,6 +18,5 @@ mod query;
 mod target;
 mod token;
 
-pub(crate) use asking::spelled;
-pub use asking::{Asking, parse, parse_by};
+pub use asking::{Asking, parse, parse_by, spelled};
 pub use bor_http::routes::Paths;

@@ -47,8 +47,8 @@ returns-then-branch-eq0-clause-taken g c =
     taken_more _ _ _ c.read.received.items _ c.read.progress c.wanted-wanted.result c.read.invariant.consumed c.read.invariant.known less (omega (arith, c.wanted-wanted.ensures, c.len-in-read.ensures)) _
     c.in_ok-read_more.ensures.piece
 
-pub after-requires-clause-known : goal.after-requires-clause-known
-after-requires-clause-known g c =
+pub after-requires : goal.after-requires
+after-requires g c =
     let piece = c.in_ok-read_more.ensures.piece in
     rw (c.deref.ensures.value, piece.came.0) (progress_kept c.read.received.items piece.bytes c.read.progress c.read.invariant.known)
 

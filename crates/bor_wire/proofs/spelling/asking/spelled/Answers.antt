@@ -1,11 +1,16 @@
+use Rattle.std.proofs.Common.{Err, Ok}
 use Rattle.std.proofs.lemmas.Result.{err_from_is_err_and}
+use Rattle.bor_http.specs.Incoming.Reading.{IsReadAs}
 use Rattle.bor_wire.proofs.OnSpelling.Messages.{refuses_as, spells_as}
 use Rattle.bor_wire.proofs.spelling.asking.spelled.Goals as goal
 
-pub returns-in_err-raw : goal.returns-in_err-raw
-returns-in_err-raw c =
+pub returns-in_err-message : goal.returns-in_err-message
+returns-in_err-message c = λ input read.
     let p = err_from_is_err_and c.from_residual.result c.from_residual.ensures.1 in
-    rw (p.1, p.2) (refuses_as c.args.input.now c.in_err-raw.field-0.0 c.in_err-raw.ensures.reading)
+    let refused : IsReadAs input (Err c.in_err-message.field-0.0) = rw c.in_err-message.was at read in
+    rw (p.1, p.2) (refuses_as input c.in_err-message.field-0.0 refused)
 
 pub returns : goal.returns
-returns c = spells_as c.args.input.now c.in_ok-raw.raw c.parse_by.result c.in_ok-raw.ensures.reading c.parse_by.ensures
+returns c = λ input read.
+    let is : IsReadAs input (Ok c.in_ok-message.field-0) = rw c.in_ok-message.was at read in
+    spells_as input c.in_ok-message.field-0 c.parse_by-2.result is c.parse_by-2.ensures

@@ -4,4 +4,4 @@ use Rattle.bor_http.proofs.incoming.progress.Progress.none.Goals as goal
 
 pub returns-clause-known : goal.returns-clause-known
 unfolding head_len
-returns-clause-known c = λ bytes. (omega arith, refl)
+returns-clause-known c = λ bytes. (omega arith, omega arith, refl)

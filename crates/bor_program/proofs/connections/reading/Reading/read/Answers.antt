@@ -1,6 +1,5 @@
 use Rattle.std.proofs.Common.{arith, length, ap, length-append}
-use Rattle.bor_http.proofs.OnIncoming.ProgressLemmas.{progress_kept}
-use Rattle.bor_http.proofs.OnIncoming.Bounds.{needs_within}
+use Rattle.bor_http.proofs.OnIncoming.ProgressLemmas.{needs_within, progress_kept}
 use Rattle.bor_program.proofs.OnConnections.Streams.{came_more}
 use Rattle.bor_program.proofs.connections.reading.Reading.read.Goals as goal
 
@@ -17,11 +16,6 @@ look-requires-clause-known g c =
     let r = c.in-Ok-receive.ensures in
     rw (r.appended, c.in-Ok.ensures.items) (progress_kept c.args.self.now.received.items r.bytes c.args.self.now.progress c.requires.known)
 
-pub look-requires-clause-within : goal.look-requires-clause-within
-look-requires-clause-within g c =
-    let r = c.in-Ok-receive.ensures in
-    omega (arith, ap length r.appended, ap length c.in-Ok.ensures.items, length-append c.make_room.new.received.items r.bytes, r.count, r.within, c.in-Ok.ensures.within, c.wanted-wanted.ensures, c.len.ensures, c.requires.missing)
-
 pub look-requires-clause-fits : goal.look-requires-clause-fits
 look-requires-clause-fits g c =
     let r = c.in-Ok-receive.ensures in
@@ -36,5 +30,5 @@ look-requires-clause-fits g c =
       c.wanted-wanted.ensures,
       c.len.ensures,
       c.requires.missing,
-      needs_within c.args.self.now.received.items c.args.self.now.progress c.requires.known c.requires.missing,
+      needs_within c.args.self.now.received.items c.args.self.now.progress c.requires.known,
     )

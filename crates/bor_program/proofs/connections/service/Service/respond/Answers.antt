@@ -6,11 +6,14 @@ use Rattle.bor_program.proofs.Logged.{may_add}
 use Rattle.bor_program.proofs.connections.service.Service.respond.Goals as goal
 use Rattle.bor_program.proofs.connections.service.Service.respond.Goals.{then-is_none+in-Some-1, then-is_none+in-None-1, else-is_none, then-self, else-self}
 
+pub returns-after-self-clause-answers : goal.returns-after-self-clause-answers
+returns-after-self-clause-answers g c = c.respond_to-agent.ensures.answers c.args.received.items c.asking_in-asking.ensures.spells
+
 pub returns-after-self-clause-noted : goal.returns-after-self-clause-noted
 returns-after-self-clause-noted g c =
-    let out = c.respond-agent.result.reply in
-    let promised = Promised g.K.Keep.meaning c.args.keep.now c.respond-agent.new.keep in
-    let P = IsNoteOf promised c.args.request.now out in
+    let out = c.respond_to-agent.result.reply in
+    let promised = Promised g.K.Keep.meaning c.args.keep.now c.respond_to-agent.new.keep in
+    let P = IsNoteOf promised c.args.received.items out in
     let before : c.if-is_none.self.notes.items ≡ c.args.self.now.notes.items = elim c.if-is_none.branch [
       | then-is_none+in-Some-1 w ↦ ap (λ s. s.notes.items) w.self-is
       | then-is_none+in-None-1 w ↦ ap (λ s. s.notes.items) w.self-is
@@ -19,11 +22,11 @@ returns-after-self-clause-noted g c =
     subst (λ notes. MayNote P notes c.if-self.self.notes.items) before (elim c.if-self.branch [
       | then-self w ↦
           may_add P c.if-is_none.self.notes.items c.if-self.self.notes.items _ w.of.result (ap (λ s. s.notes.items) w.self-is ∙ w.push.ensures.items) (record {
-            asked = w.of.ensures.asked;
+            asked = w.of.ensures.asked ∙ c.asking_in-asking.ensures.asked w.if-self.true;
             status = w.of.ensures.status;
             bytes = w.of.ensures.bytes;
             agent =
-                subst (λ agent. promised (λ r. NamesWhoAsks r c.args.request.now (record { agent = agent; reply = out }))) (sym w.of.ensures.agent) c.respond-agent.ensures.agent;
+                subst (λ agent. promised (λ r. NamesWhoAsks r c.args.received.items (record { agent = agent; reply = out }))) (sym w.of.ensures.agent) (c.respond_to-agent.ensures.agent c.args.received.items c.asking_in-asking.ensures.spells);
           })
       | else-self w ↦ inl (ap (λ s. s.notes.items) w.self-is)
     ])
