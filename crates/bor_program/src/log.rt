@@ -62,8 +62,8 @@ pub struct Note {
 }
 
 impl Note {
-    /// The note of a request for this, which had this reply and this agent's token. No memory is
-    /// taken.
+    /// The note of a request that asked for this, had this agent's token and got this reply. No
+    /// memory is taken.
     pub fn of(asked: Asked, agent: Option<AgentName>, reply: &Reply) -> Note
         ensures asked { result.asked ≡ asked }
         ensures status { result.status ≡ status_sent reply.now }

@@ -1,16 +1,19 @@
 -- One input, answered from a keep.
 use Rattle.bor_register.specs.declared.fault.StoreFault.{StoreFault}
-use Rattle.std.specs.Prelude.{◌≡◌, ◌≤◌, ℕ, List, Option, Some, None, IfSome, Ok, Err}
+use Rattle.std.specs.Prelude.{◌≡◌, ◌≤◌, ℕ, List, Option, Some, None, IfSome, Result, Ok, Err}
 use Rattle.std.specs.Io.KnownBytes.{Keeps}
 use Rattle.bor_records.specs.Promises.{Leaves, Meaning, Promised}
 use Rattle.bor_register.specs.Register.{Register, IsOrdered}
 use Rattle.bor_desk.specs.Runs.{Asked}
 use Rattle.bor_http.specs.declared.incoming.fault.Refusal.{Refusal}
-use Rattle.bor_wire.specs.Spelling.Spell.{Spelled, Spells}
+use Rattle.bor_http.specs.declared.incoming.fault.WireFault.{WireFault}
+use Rattle.bor_http.specs.declared.incoming.fault.WireFault.TheVariants.{Memory, Read, Refused}
+use Rattle.bor_wire.specs.declared.spelling.asking.Asking.{Asking}
+use Rattle.bor_wire.specs.Spelling.Spell.{Spelled, Spells, asked_view}
 use Rattle.bor_wire.specs.declared.outcome.Outcome.{Outcome}
 use Rattle.bor_wire.specs.declared.outcome.Outcome.TheVariants.{Replied, ReadFailed, WriteFailed}
 use Rattle.bor_wire.specs.Inputs.{after}
-use Rattle.bor_wire.specs.Sent.{Sent, IfFull, TellsStatus, status_sent}
+use Rattle.bor_wire.specs.Sent.{Sent, IfFull, TellsStatus, Unavailable, status_sent}
 use Rattle.bor_wire.specs.Exchanges.{GoesOut, IfAsked, IfRefusing, IsExchanged, IsFor, IsRefusal}
 use Rattle.bor_wire.specs.Exchanges.{IsWritten, ShowsAfter, agent_spelled}
 
@@ -57,7 +60,7 @@ AnswersOne meaning old new ReadFailed known held holds = (new ≡ old) × Keeps 
 AnswersOne meaning old new (WriteFailed status) known held holds =
     IsAnsweredOver meaning old new (WriteFailed status) known held holds
 
--- ---- for clauses of private functions alone
+-- ---- what was spelled, without the input
 
 -- The same of what goes out for an input that spells this, beside which this agent is named.
 pub record GoesOutFor {K W : Type 0} (meaning : Meaning K Register W StoreFault) (old new : K)
@@ -70,6 +73,21 @@ pub record GoesOutFor {K W : Type 0} (meaning : Meaning K Register W StoreFault)
   pub agent : Promised meaning old new (λ r. IsFor out named (agent_spelled r spelled))
   pub refused : (why : Refusal) → spelled ≡ Err why → IsRefusal out why
   pub status : TellsStatus out
+
+-- What goes out for what was found in an input: for a request or a refusal as above; where there is
+-- neither, 503, and the keep was asked nothing.
+abbrev pub GoesOutAs : {K W : Type 0} → Meaning K Register W StoreFault → K → K
+    → Option (List ℕ) → Sent → Result Asking WireFault → Type 0
+GoesOutAs meaning old new named out (Ok asking) =
+    GoesOutFor meaning old new named out (Ok (asked_view asking))
+GoesOutAs meaning old new named out (Err (Refused why)) =
+    GoesOutFor meaning old new named out (Err why)
+GoesOutAs meaning old new named out (Err Read) =
+    (new ≡ old) × (named ≡ None) × (out ≡ Unavailable)
+GoesOutAs meaning old new named out (Err Memory) =
+    (new ≡ old) × (named ≡ None) × (out ≡ Unavailable)
+
+-- ---- for clauses of private functions alone
 
 -- an input, all that the reader had, where that is known, was answered so; or the keep was asked
 -- nothing

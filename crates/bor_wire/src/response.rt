@@ -9,8 +9,8 @@ ghost use Rattle.bor_wire.specs.Rendering.Limits.{reserved};
 ghost use Rattle.bor_wire.specs.Rendering.Statuses.{desk_status};
 ghost use Rattle.bor_wire.specs.Inputs.{after};
 ghost use Rattle.bor_wire.specs.Sent.{TellsStatus};
-ghost use Rattle.bor_wire.specs.Answering.{GoesOutFor, Responds};
-ghost use Rattle.bor_wire.specs.Exchanges.{IsFor, IsRefusal, IsRendered, IsToldFor, NamesWhoAsks, TellsAnswer, left_by_desk};
+ghost use Rattle.bor_wire.specs.Answering.{GoesOutAs, GoesOutFor, Responds};
+ghost use Rattle.bor_wire.specs.Exchanges.{IsRefusal, IsRendered, IsToldFor, NamesWhoAsks, TellsAnswer, left_by_desk};
 
 use crate::rendering::{
     RESERVED, desk_status, is_long, refusal_status, render, render_refusal, render_short,
@@ -114,12 +114,15 @@ fn answered<K: Keep>(alloc: Global, keep: &mut K, asking: &Asking) -> Response
 }
 
 /// Answers what an input spells, with a reply that stays in memory, and names the agent that is
-/// answered. The input's bytes may be let go before.
+/// answered. The input's bytes may be let go before. A keep whose store has shut, or shuts
+/// meanwhile, answers a request with 503, if the store has returned what was written; where there
+/// is neither a request nor a refusal, the reply is 503 and nothing is asked of the keep.
 pub fn respond_to<K: Keep>(
     alloc: Global,
     keep: &mut K,
     asking: Result<Asking, WireFault>,
 ) -> Response
+    ensures goes { GoesOutAs K.meaning keep.old keep.new result.agent result.reply asking }
     ensures answers { (input : List ℕ) → SpellsAs input asking
         → Responds K.meaning keep.old keep.new input result.reply }
     ensures agent { (input : List ℕ) → SpellsAs input asking
@@ -138,8 +141,7 @@ pub fn respond_to<K: Keep>(
     }
 }
 
-/// Answers the request in these bytes, as [`respond_to`] does. A keep whose store has shut, or
-/// shuts meanwhile, answers a request with 503, if the store has returned what was written.
+/// Answers the request in these bytes, as [`respond_to`] does.
 pub fn respond<K: Keep>(alloc: Global, paths: &Paths, keep: &mut K, input: &[u8]) -> Response
     ensures answers { Responds K.meaning keep.old keep.new input.now result.reply }
     ensures agent { Promised K.meaning keep.old keep.new (λ r. NamesWhoAsks r input.now result) }

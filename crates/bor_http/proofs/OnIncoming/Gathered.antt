@@ -28,9 +28,9 @@ not_reached needed count len is_whole both isnt same = elim (cases_lt count need
 ]
 
 -- and what is read is no more than that
-pub read_fits : (received more : List ℕ) (progress : Progress) → IsProgress received progress → length received < needs progress → length received + length more ≤ needs progress
+pub read_fits : (received more : List ℕ) (progress : Progress) → IsProgress received progress → length received + length more ≤ needs progress
     → length (received ++ more) ≤ request_limit
-read_fits received more progress known less within = omega (arith, length-append received more, within, needs_within received progress known)
+read_fits received more progress known within = omega (arith, length-append received more, within, needs_within received progress known)
 
 -- ---- one read more, where some of the request is missing
 
@@ -40,7 +40,7 @@ module _ (known held left : Option (List ℕ)) (received new : List ℕ) (progre
   taken_more result piece = (
     received ++ piece.bytes,
     Consumes-trans known held left received piece.bytes consumed piece.consumed,
-    read_fits received piece.bytes progress so_far less (omega (arith, less, most, piece.within)),
+    read_fits received piece.bytes progress so_far (omega (arith, less, most, piece.within)),
   )
 
   pub come_more : (count : ℕ) → TakesPiece held left received new wanted (Ok count) → (length new ≤ request_limit) × Consumes known left new

@@ -1,23 +1,17 @@
 -- The reading of the whole input, from what was read of it.
-use Rattle.std.proofs.Common.{◌≡◌, ◌≤◌, ◌<◌, length, drop, take, ℕ, ◌-◌, List, ◌++◌, refl, sym, ap, ◌∙◌, arith, false, true, Bool, cond, subst, Option, Some, None, Result, Ok, Err, nat_lt, nat_le, min, not, codes, take-append-drop}
+use Rattle.std.proofs.Common.{◌≡◌, ◌≤◌, ◌<◌, length, drop, take, ℕ, ◌-◌, List, ◌++◌, refl, sym, ap, ◌∙◌, arith, false, true, Bool, cond, subst, Option, Some, None, Result, Ok, Err, nat_lt, nat_le, codes}
 use Rattle.std.specs.Option.{option_map_or}
 use Rattle.std.specs.Str.Parse.{digits_value}
-use Rattle.std.proofs.lemmas.List.{length-take, length-take-le, length-drop, take_all, take_min}
+use Rattle.std.proofs.lemmas.List.{length-drop, take_all}
 use Rattle.std.proofs.lemmas.Bool.Decides.{nat_tests}
 use Rattle.std.proofs.Math.Seq.{take-append_seam, drop-append_seam}
 use Rattle.bor_http.specs.declared.incoming.fault.Refusal.{Refusal}
-use Rattle.bor_http.specs.declared.incoming.fault.Refusal.TheVariants.{BadLength, BodyTooLarge, CutShort, HeadTooLarge}
-use Rattle.bor_http.specs.declared.incoming.fault.WireFault.{WireFault}
-use Rattle.bor_http.specs.declared.incoming.fault.WireFault.TheVariants.{Refused, Read, Memory}
-use Rattle.bor_http.specs.Incoming.Head.{head_len, head_limit, line_feeds, line_limit}
-use Rattle.bor_http.specs.Incoming.Steps.{HasParts, HeadFault, body_len, length_of}
-use Rattle.bor_http.proofs.OnIncoming.Steps.{head_at, IsAt, IsBehind, and_then, with_body, with_few_lines, body_of}
+use Rattle.bor_http.specs.declared.incoming.fault.Refusal.TheVariants.{BadLength, BodyTooLarge, CutShort}
+use Rattle.bor_http.specs.Incoming.Steps.{HasParts, body_len, length_of}
+use Rattle.bor_http.proofs.OnIncoming.Steps.{head_at, IsAt, IsBehind, and_then, with_body, body_of}
 use Rattle.bor_http.specs.Incoming.Refusals.{IsMessage}
-use Rattle.bor_http.specs.Incoming.Reading.{IsRefusedAs}
 use Rattle.bor_http.specs.Incoming.Message.{Parts, FieldText, is_numeral, how_many, first_value, body_limit}
-use Rattle.bor_http.proofs.OnIncoming.ByTable.{from_steps, head_refused}
-use Rattle.bor_http.proofs.OnIncoming.HeadLemmas.{head_len-le}
-use Rattle.bor_http.proofs.OnIncoming.ReadingLemmas.{few_lines, many_lines, no_head_long, no_head_short}
+use Rattle.bor_http.proofs.OnIncoming.ByTable.{from_steps}
 
 -- with its head and what stands behind it, an input is what its parts make of it
 pub message : (input head behind : List ℕ) (n : ℕ) (parts : Result Parts Refusal) → head_at input ≡ Ok n → input ≡ head ++ behind

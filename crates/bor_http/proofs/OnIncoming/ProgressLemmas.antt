@@ -16,7 +16,7 @@ use Rattle.bor_http.specs.Incoming.Steps.{AreWithin, IsScanned, HasParts, body_l
 use Rattle.bor_http.proofs.OnIncoming.Steps.{with_few_lines, and_then, body_of, with_body}
 use Rattle.bor_http.specs.Incoming.Refusals.{IsMessage}
 use Rattle.bor_http.specs.Incoming.Message.{FieldText, Message, Parts, body_limit, first_value, how_many, is_numeral, request_limit}
-use Rattle.bor_http.specs.Incoming.Progress.{IsHeadOf, IsProgress, IsSearched, IsWhole, begun_by, message_by, needs}
+use Rattle.bor_http.specs.Incoming.Progress.{IsHeadOf, IsProgress, HasSearched, IsWhole, begun_by, message_by, needs}
 use Rattle.bor_http.proofs.OnIncoming.HeadLemmas.{head_len-le, scanned_before}
 use Rattle.bor_http.proofs.OnIncoming.ReadingLemmas.{head-cut_short, head-found, head-too_large}
 use Rattle.bor_http.proofs.OnIncoming.MessageLemmas.{body_len-le, body_short, body_there, message}
@@ -165,7 +165,7 @@ refused_so bytes why h = rw append-nil at (h.1 [])
 not_cut : (bytes : List ℕ) (m : Message) → IsMessage bytes (Ok m) → IsWhole bytes
 not_cut bytes m is cut = let same = message_unique bytes (Ok m) (Err CutShort) is cut in cc
 
-pub whole_once : (bytes : List ℕ) (progress : Progress) → IsProgress bytes progress → IsSearched (length bytes) progress → (needs progress ≤ length bytes) ↔ IsWhole bytes
+pub whole_once : (bytes : List ℕ) (progress : Progress) → IsProgress bytes progress → HasSearched (length bytes) progress → (needs progress ≤ length bytes) ↔ IsWhole bytes
 whole_once bytes (Searched n) h all = (
   λ le. absurd (omega (arith, le, h.1, all)),
   λ whole. absurd (whole (searched_cut bytes n h all)),
@@ -203,15 +203,8 @@ progress_kept bytes more (Headed head) h = record {
 
 -- ---- the front that is looked through for a head
 
-pub front_known : (bytes : List ℕ) (n k : ℕ) → k ≡ min head_limit (length bytes) → IsProgress bytes (Searched n) → IsProgress (take k bytes) (Searched n)
-front_known bytes n k is h =
-    let fits : k ≤ length bytes = omega (arith, is) in
-    let less : n ≤ k = omega (arith, is, h.0, h.1) in
-    let same : take n (take k bytes) ≡ take n bytes = sym (take-append-le n (take k bytes) (drop k bytes) (omega (arith, less, length-take-le k bytes fits))) ∙ ap (take n) (take-append-drop k bytes) in
-    (omega (arith, less, length-take-le k bytes fits), h.1, ap head_len same ∙ h.2)
-
-pub of_front : (bytes : List ℕ) (k : ℕ) (progress : Progress) → k ≡ min head_limit (length bytes) → IsProgress (take k bytes) progress → IsSearched (length (take k bytes)) progress
-    → IsProgress bytes progress × IsSearched (length bytes) progress
+pub of_front : (bytes : List ℕ) (k : ℕ) (progress : Progress) → k ≡ min head_limit (length bytes) → IsProgress (take k bytes) progress → HasSearched (length (take k bytes)) progress
+    → IsProgress bytes progress × HasSearched (length bytes) progress
 of_front bytes k (Searched n) is h all =
     let long : length (take k bytes) ≡ k = length-take-le k bytes (omega (arith, is)) in
     let whole : k ≡ length bytes = omega (arith, is, h.1, all, long) in
@@ -224,16 +217,16 @@ of_front bytes k (Headed head) is h all =
 
 -- the same of what a search of the front gives
 pub known_all : {E : Type 0} (bytes : List ℕ) (k : ℕ) (result : Result Progress E) → k ≡ min head_limit (length bytes)
-    → IfOk result (IsProgress (take k bytes)) → IfOk result (IsSearched (length (take k bytes))) → IfOk result (IsProgress bytes)
+    → IfOk result (IsProgress (take k bytes)) → IfOk result (HasSearched (length (take k bytes))) → IfOk result (IsProgress bytes)
 known_all bytes k (Ok progress) is h all = (of_front bytes k progress is h all).0
 known_all bytes k (Err e) is h all = tt
 
 pub searched_of_all : {E : Type 0} (bytes : List ℕ) (k : ℕ) (result : Result Progress E) → k ≡ min head_limit (length bytes)
-    → IfOk result (IsProgress (take k bytes)) → IfOk result (IsSearched (length (take k bytes))) → IfOk result (IsSearched (length bytes))
+    → IfOk result (IsProgress (take k bytes)) → IfOk result (HasSearched (length (take k bytes))) → IfOk result (HasSearched (length bytes))
 searched_of_all bytes k (Ok progress) is h all = (of_front bytes k progress is h all).1
 searched_of_all bytes k (Err e) is h all = tt
 
-pub whole_all : {E : Type 0} (bytes : List ℕ) (result : Result Progress E) → IfOk result (IsProgress bytes) → IfOk result (IsSearched (length bytes))
+pub whole_all : {E : Type 0} (bytes : List ℕ) (result : Result Progress E) → IfOk result (IsProgress bytes) → IfOk result (HasSearched (length bytes))
     → IfOk result (λ progress. (needs progress ≤ length bytes) ↔ IsWhole bytes)
 whole_all bytes (Ok progress) h all = whole_once bytes progress h all
 whole_all bytes (Err e) h all = tt

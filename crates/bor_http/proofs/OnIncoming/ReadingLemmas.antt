@@ -28,13 +28,6 @@ without_head-long limit input le = let f : nat_lt (length input) limit ≡ false
 without_head-short : (limit : ℕ) (input : List ℕ) → length input < limit → without_head limit input ≡ Err CutShort
 without_head-short limit input lt = let t : nat_lt (length input) limit ≡ true = grind (arith, nat_tests) in rw t refl
 
--- where no head is found in so many bytes
-pub no_head_long : (limit : ℕ) (input : List ℕ) → limit ≤ length input → head_len (take limit input) ≡ None → head_within limit input ≡ Err HeadTooLarge
-no_head_long limit input le none = rw none (without_head-long limit input le)
-
-pub no_head_short : (limit : ℕ) (input : List ℕ) → length input < limit → head_len (take limit input) ≡ None → head_within limit input ≡ Err CutShort
-no_head_short limit input lt none = rw none (without_head-short limit input lt)
-
 pub head-too_large : (limit : ℕ) (buffer rest : List ℕ) → length buffer ≡ limit → head_len buffer ≡ None
     → head_within limit (buffer ++ rest) ≡ Err HeadTooLarge
 head-too_large limit buffer rest e none =

@@ -16,7 +16,7 @@ use Rattle.bor_http.specs.Incoming.Steps.{AreWithin, parts_at}
 abbrev pub IsWhole : List ℕ → Type 0
 IsWhole bytes = ¬ (IsMessage bytes (Err CutShort))
 
--- the message of an input that begins with this head: the head's parts, and the bytes behind it
+-- the message of an input, as a head's spans and lengths say it: its parts, and the bytes behind it
 abbrev pub message_by : MessageHead → List ℕ → Message
 message_by head input = record {
   parts =
@@ -25,12 +25,12 @@ message_by head input = record {
   body = slice_range input head.len head.needed;
 }
 
--- what such an input is: cut short, or the message
+-- the input is read so: it is cut short, or is that message
 abbrev pub begun_by : MessageHead → List ℕ → Result Message Refusal
 begun_by head input =
     if nat_lt (length input) head.needed then Err CutShort else Ok (message_by head input)
 
--- The bytes begin with this head, which says what the request is, whatever follows them.
+-- The bytes begin so that this head's spans and lengths say what the request is, whatever follows.
 pub record IsHeadOf (bytes : List ℕ) (head : MessageHead) : Type 0 where
   pub within : AreWithin (take head.len bytes) head.spans.method head.spans.target
       head.spans.fields.items
@@ -39,8 +39,8 @@ pub record IsHeadOf (bytes : List ℕ) (head : MessageHead) : Type 0 where
   pub fits : head.needed ≤ request_limit
   pub says : (more : List ℕ) → IsMessage (bytes ++ more) (begun_by head (bytes ++ more))
 
--- So much is known of the bytes: no head ends within the first n of them; or they are refused so,
--- or begin with this head, whatever follows.
+-- So much is known of the bytes: no head ends within the first n of them, fewer than a head may
+-- have; or they are refused so, not as cut short, or begin with this head, whatever follows.
 abbrev pub IsProgress : List ℕ → Progress → Type 0
 IsProgress bytes (Searched n) =
     (n ≤ length bytes) × (n < head_limit) × (head_len (take n bytes) ≡ None)
@@ -48,14 +48,14 @@ IsProgress bytes (Refused why) =
     (why ≢ CutShort) × ((more : List ℕ) → IsMessage (bytes ++ more) (Err why))
 IsProgress bytes (Headed head) = IsHeadOf bytes head
 
--- where no head was found, all of so many bytes were searched
-abbrev pub IsSearched : ℕ → Progress → Type 0
-IsSearched count (Searched n) = n ≡ count
-IsSearched count (Refused why) = ⊤
-IsSearched count (Headed head) = ⊤
+-- where a head is still looked for, all of so many bytes were searched
+abbrev pub HasSearched : ℕ → Progress → Type 0
+HasSearched count (Searched n) = n ≡ count
+HasSearched count (Refused why) = ⊤
+HasSearched count (Headed head) = ⊤
 
--- they are whole once there are so many: a head may have as many, and then a request is as long as
--- its head says
+-- so many bytes may be read before more is known: those of the largest head; none more of what is
+-- refused; those of the request
 abbrev pub needs : Progress → ℕ
 needs (Searched n) = head_limit
 needs (Refused why) = 0

@@ -1,5 +1,5 @@
 -- Parts of an input, one looked at after the other: each refuses, or the next is looked at. For
--- clauses of private functions alone, but for `◌>>=◌`.
+-- clauses of private functions alone, but for `◌>>=◌`, `parts_at` and `AreWithin`.
 use Rattle.std.specs.Prelude.{◌≡◌, ℕ, ◌+◌, nat_lt, nat_le, List, [], length, drop, map}
 use Rattle.std.specs.Prelude.{Result, Ok, Err, if◌then◌else◌, codes, All, ⊤}
 use Rattle.std.specs.Option.{option_map, option_map_or}

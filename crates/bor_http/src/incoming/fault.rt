@@ -180,13 +180,3 @@ impl From<AllocError> for WireFault {
         WireFault::Memory
     }
 }
-
-impl From<Refusal> for WireFault {
-    ghost use Rattle.bor_http.specs.declared.incoming.fault.WireFault.TheVariants.{Refused};
-
-    ghost from_gives = { λ refusal fault. fault ≡ Refused refusal };
-
-    fn from(refusal: Refusal) -> WireFault {
-        WireFault::Refused(refusal)
-    }
-}

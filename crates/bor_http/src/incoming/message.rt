@@ -30,7 +30,7 @@ pub(crate) struct HeadSpans {
     pub(crate) fields: Vec<HeaderSpan>,
 }
 
-/// A head that has come, taken apart: the request that it begins.
+/// A head that has come, taken apart, and how long the request is that it begins.
 #[derive(Drop)]
 pub struct MessageHead {
     pub(crate) spans: HeadSpans,
@@ -82,7 +82,7 @@ pub(crate) fn parse_head(alloc: Global, head: &[u8]) -> Result<HeadSpans, WireFa
 }
 
 /// A request in bytes that hold it whole: a head (RFC 9112) and as many bytes behind it as the head
-/// says. Only [`message_in`] makes one.
+/// says. Only [`Progress::message`] makes one, for [`message_in`] too.
 #[derive(Drop)]
 pub struct RawRequest<'a> {
     head: &'a [u8],

@@ -1,9 +1,9 @@
-//! How much of a request has come, so that no byte of it is looked at twice.
+//! How much of a request has come, so that its head is searched and taken apart once.
 
 ghost use Rattle.std.specs.Prelude.{◌≡◌, ◌≤◌, ◌-◌, ◌↔◌, ℕ, List, Some, IfOk, IsTrue, length};
 ghost use Rattle.bor_http.specs.declared.incoming.progress.Progress.TheVariants.{Searched};
 ghost use Rattle.bor_http.specs.Incoming.Head.{head_len, head_limit};
-ghost use Rattle.bor_http.specs.Incoming.Progress.{IsProgress, IsSearched, IsWhole, needs};
+ghost use Rattle.bor_http.specs.Incoming.Progress.{IsProgress, HasSearched, IsWhole, needs};
 ghost use Rattle.bor_http.specs.Incoming.Reading.{IsReadAs};
 
 use crate::incoming::fault::{Refusal, WireFault};
@@ -36,11 +36,12 @@ impl Progress {
     ///
     /// # Errors
     ///
-    /// There is no memory for taking the head apart.
+    /// There is no memory for taking the head apart. What was known is lost; [`Progress::none`] may
+    /// be taken in its place.
     pub fn after(self, alloc: Global, bytes: &[u8]) -> Result<Progress, AllocError>
         requires { IsProgress bytes.now self }
         ensures known { IfOk result (IsProgress bytes.now) }
-        ensures searched { IfOk result (IsSearched (length bytes.now)) }
+        ensures searched { IfOk result (HasSearched (length bytes.now)) }
         ensures whole { IfOk result (λ progress.
             (needs progress ≤ length bytes.now) ↔ IsWhole bytes.now) }
     {
@@ -73,6 +74,10 @@ impl Progress {
 
     /// The request that these bytes begin with, where so much of it was known before: as
     /// [`message_in`](crate::incoming::message_in) gives it.
+    ///
+    /// # Errors
+    ///
+    /// Those of `message_in`.
     pub fn message<'a>(self, alloc: Global, bytes: &'a [u8]) -> Result<RawRequest<'a>, WireFault>
         requires { IsProgress bytes.now self }
         ensures { IsReadAs bytes.now result }
@@ -90,7 +95,7 @@ fn search(alloc: Global, front: &[u8], searched: usize) -> Result<Progress, Allo
     requires known { IsProgress front.now (Searched searched) }
     requires within { length front.now ≤ head_limit }
     ensures known { IfOk result (IsProgress front.now) }
-    ensures searched { IfOk result (IsSearched (length front.now)) }
+    ensures searched { IfOk result (HasSearched (length front.now)) }
 {
     match head_end_from(front, searched.saturating_sub(2)) {
         Some(len) => taken_apart(alloc, front, len),
@@ -104,7 +109,7 @@ fn taken_apart(alloc: Global, front: &[u8], len: usize) -> Result<Progress, Allo
     requires head { head_len front.now ≡ Some len }
     requires within { length front.now ≤ head_limit }
     ensures known { IfOk result (IsProgress front.now) }
-    ensures searched { IfOk result (IsSearched (length front.now)) }
+    ensures searched { IfOk result (HasSearched (length front.now)) }
 {
     let head = &front[..len];
     if !has_few_lines(head) {

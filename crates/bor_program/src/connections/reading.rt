@@ -4,7 +4,7 @@ ghost use Rattle.std.specs.Prelude.{◌≡◌, ◌≢◌, ◌↔◌, IsTrue, [],
 ghost use Rattle.std.specs.IoError.{error_kind};
 ghost use Rattle.std.specs.Io.KnownBytes.{IsAtEnd, Keeps};
 ghost use Rattle.bor_http.specs.Incoming.Message.{request_limit};
-ghost use Rattle.bor_http.specs.Incoming.Progress.{IsProgress, IsWhole, needs};
+ghost use Rattle.bor_http.specs.Incoming.Progress.{IsProgress, IsWhole};
 ghost use Rattle.bor_program.specs.declared.connections.reading.Taken.TheVariants.{Blocked, Failed, More, Whole};
 ghost use Rattle.bor_program.specs.Connections.Streams.{Came, IsBlocked, IsReading, KeepsAll, Received};
 

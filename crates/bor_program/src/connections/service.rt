@@ -1,6 +1,6 @@
 //! The service that answers requests: the register's desk, behind the paths that there are.
 
-ghost use Rattle.std.specs.Prelude.{◌≡◌, [], false, true};
+ghost use Rattle.std.specs.Prelude.{◌≡◌, [], IfSome, None, false};
 ghost use Rattle.bor_records.specs.Promises.{Promised};
 ghost use Rattle.bor_http.specs.Incoming.Progress.{IsProgress};
 ghost use Rattle.bor_wire.specs.Answering.{Responds};
@@ -68,7 +68,7 @@ impl Service {
             Some(paths) => {
                 let (asking, asked) = self.asking_in(paths, received, progress);
                 let Response { agent, reply } = respond_to(self.alloc, keep, asking);
-                if self.is_noting {
+                if let Some(asked) = asked {
                     let _ = self.notes.push(Note::of(asked, agent, &reply));
                 }
                 reply
@@ -77,22 +77,23 @@ impl Service {
         }
     }
 
-    // What these bytes spell and, where it is noted, what the log says of them. They are let go, so
-    // that the body of a request is in memory once while the desk answers.
+    // What these bytes spell and, where requests are noted, what the log says of them. The bytes are
+    // let go: of a lodging one copy of the file stays while the desk answers.
     fn asking_in(
         &self,
         paths: &Paths,
         received: Vec<u8>,
         progress: Progress,
-    ) -> (Result<Asking, WireFault>, Asked)
+    ) -> (Result<Asking, WireFault>, Option<Asked>)
         requires { IsProgress received.items progress }
         ensures spells { SpellsAs received.items result.0 }
-        ensures asked { self.now.is_noting ≡ true → result.1 ≡ asked_of received.items }
+        ensures asked { IfSome result.1 (λ asked. asked ≡ asked_of received.items) }
+        ensures silent { self.now.is_noting ≡ false → result.1 ≡ None }
     {
         let asked = if self.is_noting {
-            asked_by(paths, &received)
+            Some(asked_by(paths, &received))
         } else {
-            Asked::Nothing
+            None
         };
         let asking = spelled(self.alloc, paths, progress.message(self.alloc, &received));
         (asking, asked)

@@ -99,8 +99,6 @@ Spells input spelled =
 abbrev pub asked_view : Asking → Asked
 asked_view a = record { token = a.token; request = a.request }
 
--- ---- for clauses of private functions alone
-
 -- the input is refused so; or memory ran out, and no reader was asked
 abbrev pub RefusesAs : List ℕ → WireFault → Type 0
 RefusesAs input (Refused why) = Spells input (Err why)

@@ -1,5 +1,5 @@
 //! The request of a message, and the token of whoever asks.
-ghost use Rattle.std.specs.Prelude.{ℕ, List};
+ghost use Rattle.std.specs.Prelude.{◌≡◌, ℕ, List, MatchResult};
 ghost use Rattle.bor_http.specs.Incoming.Reading.{IsReadAs};
 ghost use Rattle.bor_wire.specs.Spelling.Spell.{SpellsAs, asked_view, spell};
 ghost use Rattle.bor_wire.specs.Spelling.Query.{pair_texts};
@@ -163,14 +163,20 @@ pub fn parse_by(alloc: Global, paths: &Paths, raw: &RawRequest<'_>) -> Result<As
     Ok(Asking { token, request })
 }
 
-/// The request that a whole input spells, with the token of whoever asks, or the first refusal of
-/// all, where the input is this message; by paths that were made before.
+/// The request that a whole input spells, with the token of whoever asks, from the message that the
+/// input is; by paths that were made before.
+///
+/// # Errors
+///
+/// The message's own fault; else the first refusal that [`parse`] gives, or `Memory`.
 pub fn spelled(
     alloc: Global,
     paths: &Paths,
     message: Result<RawRequest<'_>, WireFault>,
 ) -> Result<Asking, WireFault>
-    ensures { (input : List ℕ) → IsReadAs input message.entry → SpellsAs input result }
+    ensures stated { MatchResult message.entry
+        (λ m. FindsStated asked_view result (spell m)) (λ fault. result ≡ Err fault) }
+    ensures spells { (input : List ℕ) → IsReadAs input message.entry → SpellsAs input result }
 {
     parse_by(alloc, paths, &message?)
 }

@@ -7,6 +7,11 @@ use Rattle.bor_wire.proofs.Exchanged.{goes_out, unasked}
 use Rattle.bor_wire.proofs.Responses.{nobody_named, refusal_goes_out}
 use Rattle.bor_wire.proofs.response.respond_to.Goals as goal
 
+pub returns-in-Err-Refused-clause-goes : goal.returns-in-Err-Refused-clause-goes
+returns-in-Err-Refused-clause-goes g c =
+    let is : c.in-Err-Refused.field-0 ≡ Refused c.in-Err-Refused.refusal = rw c.in-Err-Refused.is at c.in-Err-Refused.field-0-is in
+    rw (c.in-Err-Refused.is, is) (refusal_goes_out g.K.Keep.meaning c.args.keep.now c.refused.result c.in-Err-Refused.refusal c.refused.ensures.refusal c.refused.ensures.status)
+
 pub returns-in-Ok-clause-answers : goal.returns-in-Ok-clause-answers
 returns-in-Ok-clause-answers g c = λ input spells.
     goes_out g.K.Keep.meaning c.args.keep.now c.answered.new.keep c.answered.result.agent c.answered.result.reply input (Ok (asked_view c.in-Ok.asking)) (rw c.in-Ok.is at spells) c.answered.ensures
