@@ -9,11 +9,11 @@ ghost use Rattle.sqlite_wal.specs.Files.{image_at};
 ghost use Rattle.bor_program.specs.Deeds.{Moves};
 ghost use Rattle.bor.specs.Machine.{FindsOrSetsUp, IsDeedDone, IsMoved, opening_failure};
 
-use crate::served_keep::{Notice, ServedKeep};
 use crate::setup::find_or_set_up;
 use crate::waiting::{Waiting, time};
 use bor_desk::operations::Keep;
 use bor_program::{Failure, Opened, Ports, Registers, Stage};
+use bor_served::{Notice, ServedKeep};
 use bor_store::{OpenFault, SqlKeep, close_files, connect, migrate, statements_within};
 use bor_terms::{Day, Token};
 use mio::net;

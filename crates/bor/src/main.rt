@@ -2,7 +2,6 @@
 #![tactic(auto)]
 
 mod host;
-mod served_keep;
 mod setup;
 mod start;
 mod waiting;

@@ -82,7 +82,7 @@ impl<S: Alter + Drop, N: Notice + Drop> ServedKeep<S, N> {
 impl<S: Alter + Drop, N: Notice + Drop> Keep for ServedKeep<S, N> {
     ghost use Rattle.sqlite.specs.Held.{state};
     ghost use Rattle.sqlite.specs.Tree.{Trees};
-    ghost use Rattle.bor.specs.Served.{of_served};
+    ghost use Rattle.bor_served.specs.Served.{of_served};
     ghost use Rattle.bor_store_sql.proofs.Ending.{stands_in};
     ghost use Rattle.std.proofs.Common.{sym};
 
