@@ -171,7 +171,7 @@ def what_cannot_be_packed_is_told(bor, folder):
         (tools / name).write_text(f"#!/bin/sh\n{words}\n")
         (tools / name).chmod(0o755)
     shown = {**os.environ, "PATH": f"{tools}:{os.environ['PATH']}"}
-    program, line = f"{folder}/program", PACKAGE.TOOLCHAIN.search((TOP / "README.md").read_text(encoding="utf-8"))[1]
+    program, line = f"{folder}/program", PACKAGE.LOGIC.search((TOP / "README.md").read_text(encoding="utf-8"))[1]
     for words, variables, status, said in (
         (["--program", f"{folder}/none", folder], os.environ, 1, "package: [Errno 2]"),
         (["--program", program, f"{folder}/none"], os.environ, 1, "package: [Errno 2]"),
@@ -182,7 +182,7 @@ def what_cannot_be_packed_is_told(bor, folder):
         is_so((ran.returncode, ran.stdout) == (status, "") and ran.stderr.startswith(said), f"{words}: {ran}")
     (tools / "git").unlink()
     ran = subprocess.run([TOP / "tools" / "package", "--program", program, folder], env=shown, capture_output=True, text=True, timeout=SECONDS, check=False)
-    is_so(ran.stderr == f"package: README.md names the toolchain {line}, and rt version says another\n", f"{ran}")
+    is_so(ran.stderr == f"package: README.md names the toolchain's {line}, and rt version says another\n", f"{ran}")
     for text in ("# Changelog\n", "# Changelog\n\n## [Unreleased]\n", "## [Unreleased]\n\n## 2026-11-28\n", "## Later\n\n## [0.1.0] - 2026-11-29\n"):
         try:
             is_so(not PACKAGE.version_in(text, "abcdef0123", 0), f"{text!r} names a version")
