@@ -5,13 +5,13 @@
 //! `bor_store::SqlKeep`, and has a [`Notice`] given where a change lets the register go from memory:
 //!
 //! ```
-//! let mut keep = ServedKeep::new(store, 700_000, notice);
+//! let mut keep = ServedKeep::new(store, 650_000, notice);
 //! keep.fill();
 //! let replies = keep.answer_all(alloc, &inputs)?;
 //! ```
 //!
-//! It stands in a crate of its own since a function takes a third of the time to prove here that it
-//! takes in the program.
+//! It stands in a crate of its own since a function takes half as long to prove here as in the
+//! program.
 #![tactic(auto)]
 
 mod served_keep;

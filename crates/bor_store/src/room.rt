@@ -7,5 +7,5 @@ ghost use Rattle.bor_store.specs.Room.{statements_a_megabyte};
 pub fn statements_within(megabytes: u32) -> u32
     ensures { result ≡ min (megabytes * statements_a_megabyte) u32.MAX }
 {
-    megabytes.saturating_mul(700)
+    megabytes.saturating_mul(650)
 }
