@@ -183,7 +183,7 @@ p1_in_e1 stake holding = record { rec = codes "r1"; party = of_c1 (codes "p1"); 
 
 -- an entity, a person and a relationship are two nodes and a link
 shown_rows : shown_of (pos 10) (opened_row ∷ person_row ∷ link_row ∷ []) ≡ record {
-  nodes = record { node = of_c1 (codes "e1"); info = Entity true; identifiers = [] } ∷ record { node = of_c1 (codes "p1"); info = Person (Some (codes "Ann Moss")); identifiers = [] } ∷ [];
+  nodes = record { node = of_c1 (codes "e1"); info = Entity true; identifiers = [] } ∷ record { node = of_c1 (codes "p1"); info = Person (record { name = Some (codes "Ann Moss") }); identifiers = [] } ∷ [];
   links = p1_in_e1 true true ∷ [];
 }
 unfolding points
@@ -266,7 +266,7 @@ by_identifier : map (λ b. are_alike (entity (of_c1 (codes "e1")) (registered �
 by_identifier = refl
 
 -- a person is nobody's alias
-no_person : are_alike (entity (of_c1 (codes "p1")) []) (record { node = node (codes "c2") (codes "p1"); info = Person None; identifiers = [] }) ≡ false
+no_person : are_alike (entity (of_c1 (codes "p1")) []) (record { node = node (codes "c2") (codes "p1"); info = Person (record { name = None }); identifiers = [] }) ≡ false
 no_person = refl
 
 -- the rows of one record in two declarations show two nodes that stand for one entity

@@ -12,6 +12,7 @@ use Rattle.bor_records.specs.declared.links.node.Node.{Node}
 use Rattle.bor_records.specs.declared.links.node.NodeInfo.{NodeInfo}
 use Rattle.bor_records.specs.declared.links.node.NodeInfo.TheVariants.{Entity, Person}
 use Rattle.bor_records.specs.declared.links.node.OpenNode.{OpenNode}
+use Rattle.bor_records.specs.declared.links.node.PersonInfo.{PersonInfo}
 use Rattle.bor_records.specs.declared.links.node.Link.{Link}
 use Rattle.bor_records.specs.OpenRows.{open_rows}
 use Rattle.bor_records.specs.Links.Series.{stated}
@@ -29,12 +30,16 @@ is_legal_kind kinds.State = false
 is_legal_kind kinds.StateBody = false
 is_legal_kind kinds.Other = false
 
+-- what a report's line shows of a person with this name
+abbrev pub person_named : Option (List ℕ) → PersonInfo
+person_named name = record { name = name }
+
 -- the open node that the details of an entity or a person make
 abbrev pub node_with : Node → Details → Option OpenNode
 node_with n (details.Entity kind name identifiers) =
     Some (record { node = n; info = Entity (is_legal_kind kind); identifiers = identifiers })
 node_with n (details.Person kind name) =
-    Some (record { node = n; info = Person name; identifiers = [] })
+    Some (record { node = n; info = Person (person_named name); identifiers = [] })
 node_with n (details.Relationship subject party interests) = None
 
 -- the node that a row's statement makes
@@ -44,7 +49,7 @@ node_in r = node_with (stated r.agent r.statement) r.statement.details
 -- the data that a chain needs of it
 abbrev pub info_stated : Details → Option NodeInfo
 info_stated (details.Entity kind name identifiers) = Some (Entity (is_legal_kind kind))
-info_stated (details.Person kind name) = Some (Person name)
+info_stated (details.Person kind name) = Some (Person (person_named name))
 info_stated (details.Relationship subject party interests) = None
 
 -- the open entities and persons

@@ -1,5 +1,5 @@
 -- The open entities and persons that a source shows, and the links between them.
-use Rattle.std.specs.Prelude.{◌≡◌, ℕ, List, Bool, true, false, ◌&&◌, ◌||◌, not, Option, None, Some}
+use Rattle.std.specs.Prelude.{◌≡◌, List, Bool, true, false, ◌&&◌, ◌||◌, not, Option, None, Some}
 use Rattle.std.specs.Prelude.{find, option_map, option_and_then, if◌then◌else◌}
 use Rattle.std.specs.List.{list_any}
 use Rattle.bor_terms.specs.Texts.{is_same}
@@ -8,6 +8,7 @@ use Rattle.bor_records.specs.declared.links.node.Node.{Node}
 use Rattle.bor_records.specs.declared.links.node.NodeInfo.{NodeInfo}
 use Rattle.bor_records.specs.declared.links.node.NodeInfo.TheVariants.{Entity, Person}
 use Rattle.bor_records.specs.declared.links.node.OpenNode.{OpenNode}
+use Rattle.bor_records.specs.declared.links.node.PersonInfo.{PersonInfo}
 use Rattle.bor_records.specs.declared.links.node.Link.{Link}
 use Rattle.bor_records.specs.Links.Nodes.{same_node}
 
@@ -29,7 +30,7 @@ info_of s n = info_in s.nodes n
 
 abbrev pub is_entity : NodeInfo → Bool
 is_entity (Entity legal) = true
-is_entity (Person name) = false
+is_entity (Person info) = false
 
 -- the node is an open entity, of whatever kind
 abbrev pub IsEntity : Shown → Node → Type 0
@@ -39,9 +40,9 @@ IsEntity s n = (legal : Bool) × (info_of s n ≡ Some (Entity legal))
 abbrev pub IsLegalEntity : Shown → Node → Type 0
 IsLegalEntity s n = info_of s n ≡ Some (Entity true)
 
--- an open person, with the name that is shown
-abbrev pub IsPerson : Shown → Node → Option (List ℕ) → Type 0
-IsPerson s n name = info_of s n ≡ Some (Person name)
+-- an open person, with what a report's line shows of it
+abbrev pub IsPerson : Shown → Node → PersonInfo → Type 0
+IsPerson s n info = info_of s n ≡ Some (Person info)
 
 -- equal scheme and equal id, byte for byte
 abbrev pub same_identifier : Identifier → Identifier → Bool

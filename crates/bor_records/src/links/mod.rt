@@ -34,7 +34,7 @@ mod sign;
 mod stake;
 
 pub use class::{Class, once};
-pub use node::{Link, Node, NodeInfo, OpenNode};
+pub use node::{Link, Node, NodeInfo, OpenNode, PersonInfo};
 pub use records::Records;
 pub use rows::{info_stated, node_of, record_of};
 pub use search::{aliases, identified, same};

@@ -4,6 +4,7 @@ ghost use Rattle.std.specs.Prelude.{◌≡◌, IfOk, Some, refl};
 ghost use Rattle.std.specs.List.{list_any};
 ghost use Rattle.bor_records.specs.Links.Nodes.{node_cmp};
 ghost use Rattle.bor_records.specs.Links.Orders.{node_po, node_total, node_ties};
+ghost use Rattle.bor_records.specs.Links.Rows.{person_named};
 ghost use Rattle.bor_records.specs.Links.Shown.{is_entity, are_alike, share_identifier, same_identifier, same_record};
 
 use bods_read::{FreeText, Identifier};
@@ -76,6 +77,34 @@ impl Node {
     }
 }
 
+/// What a report's line shows of a person beside its record.
+#[derive(Drop)]
+pub struct PersonInfo {
+    /// The name that is shown.
+    pub name: Option<FreeText>,
+}
+
+impl PersonInfo {
+    /// What is shown of a person with this name.
+    pub(crate) fn named(alloc: Global, name: &Option<FreeText>) -> Result<PersonInfo, AllocError>
+        ensures { IfOk result (λ person. person ≡ person_named name.now) }
+    {
+        match name {
+            Some(name) => Ok(PersonInfo {
+                name: Some(name.copy(alloc)?),
+            }),
+            None => Ok(PersonInfo { name: None }),
+        }
+    }
+
+    /// Another copy of the information.
+    pub fn copy(&self, alloc: Global) -> Result<PersonInfo, AllocError>
+        ensures { IfOk result (λ copied. copied ≡ self.now) }
+    {
+        PersonInfo::named(alloc, &self.name)
+    }
+}
+
 /// The data that a chain needs of a node.
 #[derive(Drop)]
 pub enum NodeInfo {
@@ -86,10 +115,7 @@ pub enum NodeInfo {
         legal: bool,
     },
     /// A person.
-    Person {
-        /// The name that is shown.
-        name: Option<FreeText>,
-    },
+    Person(PersonInfo),
 }
 
 impl NodeInfo {
@@ -99,10 +125,7 @@ impl NodeInfo {
     {
         match self {
             NodeInfo::Entity { legal } => Ok(NodeInfo::Entity { legal: *legal }),
-            NodeInfo::Person { name: Some(name) } => Ok(NodeInfo::Person {
-                name: Some(name.copy(alloc)?),
-            }),
-            NodeInfo::Person { name: None } => Ok(NodeInfo::Person { name: None }),
+            NodeInfo::Person(person) => Ok(NodeInfo::Person(person.copy(alloc)?)),
         }
     }
 

@@ -4,7 +4,7 @@ ghost use Rattle.std.specs.Prelude.{◌≡◌, IfOk};
 ghost use Rattle.bor_records.specs.Links.Rows.{is_legal_kind, node_in, info_stated, beside};
 
 use crate::Row;
-use crate::links::node::{Node, NodeInfo, OpenNode};
+use crate::links::node::{Node, NodeInfo, OpenNode, PersonInfo};
 use bods_read::{Details, EntityKind, Identifier};
 use bor_terms::{Ident, Listed};
 use std::alloc::{AllocError, Global};
@@ -53,19 +53,9 @@ pub fn node_of(alloc: Global, row: &Row) -> Result<Option<OpenNode>, AllocError>
             },
             identifiers: copied(alloc, identifiers.as_slice())?,
         })),
-        Details::Person {
-            name: Some(name),
-            ..
-        } => Ok(Some(OpenNode {
+        Details::Person { name, .. } => Ok(Some(OpenNode {
             node: record_of(alloc, row, &row.statement.rec)?,
-            info: NodeInfo::Person {
-                name: Some(name.copy(alloc)?),
-            },
-            identifiers: Listed::new(Vec::new(alloc)),
-        })),
-        Details::Person { name: None, .. } => Ok(Some(OpenNode {
-            node: record_of(alloc, row, &row.statement.rec)?,
-            info: NodeInfo::Person { name: None },
+            info: NodeInfo::Person(PersonInfo::named(alloc, name)?),
             identifiers: Listed::new(Vec::new(alloc)),
         })),
         Details::Relationship { .. } => Ok(None),
@@ -80,13 +70,7 @@ pub fn info_stated(alloc: Global, details: &Details) -> Result<Option<NodeInfo>,
         Details::Entity { kind, .. } => Ok(Some(NodeInfo::Entity {
             legal: is_legal(*kind),
         })),
-        Details::Person {
-            name: Some(name),
-            ..
-        } => Ok(Some(NodeInfo::Person {
-            name: Some(name.copy(alloc)?),
-        })),
-        Details::Person { name: None, .. } => Ok(Some(NodeInfo::Person { name: None })),
+        Details::Person { name, .. } => Ok(Some(NodeInfo::Person(PersonInfo::named(alloc, name)?))),
         Details::Relationship { .. } => Ok(None),
     }
 }
