@@ -11,7 +11,7 @@ use Rattle.bor_records.specs.Links.Nodes.{node_cmp}
 use Rattle.bor_records.specs.Links.Shown.{Shown, listed_at}
 use Rattle.bor_records.specs.Links.Signs.{sign_cmp, HasSign}
 use Rattle.bor_desk.specs.declared.evidence.kin.Kin.{Kin}
-use Rattle.bor_desk.specs.Memory.Indexed.{under}
+use Rattle.bor_records.specs.Links.Values.{under}
 
 -- the node is an open entity that has the sign
 abbrev pub HasSignAt : Shown → Node → Sign → Type 0

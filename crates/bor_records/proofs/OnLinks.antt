@@ -10,6 +10,7 @@ pub mod Examples
 pub mod Sames
 pub mod Exact
 pub mod Signs
+pub mod Values
 pub mod Growth
 pub mod Given
 pub mod InOrder

@@ -9,6 +9,7 @@ pub mod Answers
 pub mod ByKey
 pub mod Laws
 pub mod Signs
+pub mod Values
 pub mod Growth
 pub mod Candidates
 pub mod Alike

@@ -29,9 +29,9 @@ use Rattle.bor_records.proofs.OnLinks.Sames.{alias_turn, same_turn}
 use Rattle.bor_records.proofs.OnLinks.Signs.{in_common, common_alike}
 use Rattle.bor_desk.specs.declared.evidence.kin.Kin.{Kin}
 use Rattle.bor_desk.specs.Kin.{AreKin, AreTaken, HasSignAt, IsKinOf, NoneFound, signed_in, signs_in, signs_under}
-use Rattle.bor_desk.specs.declared.memory.values.Values.{Values}
-use Rattle.bor_desk.specs.Memory.Indexed.{IsNoted, values_under, under}
-use Rattle.bor_desk.proofs.OnMemory.Indexed.{empty_under}
+use Rattle.bor_records.specs.declared.links.values.Values.{Values}
+use Rattle.bor_records.specs.Links.Values.{IsNoted, values_under, under}
+use Rattle.bor_records.proofs.OnLinks.Values.{empty_under}
 
 -- ---- aliases share a sign
 

@@ -1,10 +1,8 @@
 -- The maps beside the filings, as the register changes.
 use Rattle.std.proofs.Common.{◌≡◌, ◌⊎◌, ◌&&◌, ◌++◌, ℕ, Bool, true, false, List, [], ◌∷◌, length, Contains, append-nil, refl, ◌∙◌, sym, ap, subst, inl, inr, arith}
 use Rattle.std.specs.Prelude.{if◌then◌else◌, ◌==◌}
-use Rattle.std.specs.BTreeMap.{BTreeMap, IsEmpty, is_at}
-use Rattle.std.specs.Map.{lookup}
+use Rattle.std.specs.BTreeMap.{IsEmpty}
 use Rattle.std.specs.Ordering.{is_eq}
-use Rattle.std.specs.declared.cmp.Ordering.{Ordering}
 use Rattle.std.proofs.lemmas.List.Elements.{Contains-append_cases, Contains-append_left, Contains-append_right}
 use Rattle.std.proofs.lemmas.Map.Lookups.{CmpEqualImpliesEq, exact_bytes}
 use Rattle.std.proofs.lemmas.Map.Views.{tells_apart}
@@ -18,15 +16,16 @@ use Rattle.bor_records.specs.Links.Series.{stated}
 use Rattle.bor_records.specs.Links.Signs.{sign_cmp}
 use Rattle.bor_records.proofs.OnLinks.Exact.{parts}
 use Rattle.bor_records.proofs.OnLinks.Found.{none}
+use Rattle.bor_records.proofs.OnLinks.Values.{empty_under}
 use Rattle.bor_register.specs.declared.filing.AcceptedFiling.{AcceptedFiling}
 use Rattle.bor_desk.specs.declared.memory.index.Index.{Index}
 use Rattle.bor_desk.specs.declared.memory.index.Place.{Place}
 use Rattle.bor_desk.specs.declared.memory.index.StatementKey.{StatementKey}
-use Rattle.bor_desk.specs.declared.memory.values.Values.{Values}
 use Rattle.bor_register.specs.declared.member.Member.{Member}
 use Rattle.bor_register.specs.Register.{filings_of, is_enrolled, new_member, with_filings, with_member}
 use Rattle.bor_register.specs.Withdrawal.{as_withdrawn, with_withdrawn}
-use Rattle.bor_desk.specs.Memory.Indexed.{AllNoted, AreNoted, IsGrown, IsIndex, has_key, has_record, values_under, key_cmp, key_of, signs_of, statements_in, subjects_of, under}
+use Rattle.bor_records.specs.Links.Values.{under}
+use Rattle.bor_desk.specs.Memory.Indexed.{AllNoted, AreNoted, IsGrown, IsIndex, has_key, has_record, key_cmp, key_of, signs_of, statements_in, subjects_of}
 use Rattle.bor_desk.specs.Memory.Sited.{ArePlacesOf, places_from}
 use Rattle.bor_register.proofs.Members.{filings_absent, filings_written, other_filings, with_filings_absent}
 use Rattle.bor_desk.proofs.OnMemory.Sited.{no_places, places_more, places_none}
@@ -170,9 +169,6 @@ pub index_enrolled : (ms : List Member) (agent token : List ℕ) (x : Index) →
 index_enrolled ms agent token x fresh h = index_same ms (with_member (new_member agent token) ms) x (λ name. member_more name agent token ms fresh) h
 
 -- ---- no agents
-
-pub empty_under : {K X : Type 0} (cmp : K → K → Ordering) (m : BTreeMap K (Values X)) (k : K) → m.entries ≡ [] → under cmp m k ≡ []
-empty_under {K} {X} cmp m k e = ap (λ (es : List (K × Values X)). values_under (lookup (is_at (cmp k)) es)) e
 
 pub index_none : (x : Index) → IsEmpty x.series → IsEmpty x.named → IsIndex [] x
 index_none x series named = record {

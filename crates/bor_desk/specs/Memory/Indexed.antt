@@ -1,7 +1,6 @@
 -- Maps beside the filings of a register in memory; for clauses of private functions alone.
-use Rattle.std.specs.Prelude.{◌≡◌, ◌⊎◌, ◌++◌, ℕ, List, [], ◌∷◌, map, Contains, Bool, Option, None}
+use Rattle.std.specs.Prelude.{◌≡◌, ◌++◌, ℕ, List, [], ◌∷◌, map, Contains, Bool, None}
 use Rattle.std.specs.Prelude.{Some}
-use Rattle.std.specs.BTreeMap.{BTreeMap, get}
 use Rattle.std.specs.Ordering.{is_eq, ordering_then}
 use Rattle.std.specs.declared.cmp.Ordering.{Ordering}
 use Rattle.bods_read.specs.declared.details.Details.{Details}
@@ -12,26 +11,13 @@ use Rattle.bor_records.specs.declared.links.sign.Sign.{Sign}
 use Rattle.bor_records.specs.Links.Nodes.{node_cmp, text_cmp}
 use Rattle.bor_records.specs.Links.Series.{stated}
 use Rattle.bor_records.specs.Links.Signs.{by_identifier, by_record, sign_cmp}
+use Rattle.bor_records.specs.Links.Values.{under}
 use Rattle.bor_register.specs.declared.filing.AcceptedFiling.{AcceptedFiling}
 use Rattle.bor_register.specs.declared.member.Member.{Member}
 use Rattle.bor_desk.specs.declared.memory.index.Index.{Index}
 use Rattle.bor_desk.specs.declared.memory.index.StatementKey.{StatementKey}
-use Rattle.bor_desk.specs.declared.memory.values.Values.{Values}
-use Rattle.bor_desk.specs.declared.memory.values.Values.TheVariants as values
 use Rattle.bor_register.specs.Register.{filings_of}
 use Rattle.bor_desk.specs.Memory.Sited.{ArePlacesOf, places_from}
-
--- the values under a key
-abbrev pub values_in : {X : Type 0} → Values X → List X
-values_in (values.One x) = x ∷ []
-values_in (values.More xs) = xs.items
-
-abbrev pub values_under : {X : Type 0} → Option (Values X) → List X
-values_under None = []
-values_under (Some xs) = values_in xs
-
-abbrev pub under : {K X : Type 0} → (K → K → Ordering) → BTreeMap K (Values X) → K → List X
-under cmp m k = values_under (get cmp m k)
 
 -- by identifier, then agent
 abbrev pub key_cmp : StatementKey → StatementKey → Ordering
@@ -71,13 +57,6 @@ signs_in n (details.Relationship subject party interests) = []
 
 abbrev pub signs_of : List ℕ → Statement → List Sign
 signs_of agent s = signs_in (stated agent s) s.details
-
--- A node is added under these keys and no others, and what was there stays.
-pub record IsNoted {K : Type 0} (ks : List K) (n : Node) (was now : K → List Node) : Type 0 where
-  pub stays : (k : K) (m : Node) → Contains (was k) m → Contains (now k) m
-  pub there : (k : K) → Contains ks k → Contains (now k) n
-  pub only : (k : K) (m : Node) → Contains (now k) m
-      → Contains (was k) m ⊎ (Contains ks k × (m ≡ n))
 
 -- The record of each statement of the agent is added under the statement's keys, and what was there
 -- stays.

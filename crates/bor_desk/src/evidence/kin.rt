@@ -3,30 +3,19 @@
 ghost use Rattle.std.specs.Prelude.{◌≡◌, ◌++◌, ◌∷◌, [], IfOk, OnOk, IsTrue, List, Some};
 ghost use Rattle.bor_records.specs.declared.links.node.Node.{Node};
 ghost use Rattle.bor_records.specs.Links.Shown.{Shown, is_entity, listed_at};
-ghost use Rattle.bor_records.specs.Links.Signs.{sign_cmp, signs};
+ghost use Rattle.bor_records.specs.Links.Signs.{sign_cmp};
+ghost use Rattle.bor_records.specs.Links.Values.{under};
 ghost use Rattle.bor_records.specs.Promises.{Kept, Promised};
 ghost use Rattle.bor_register.specs.Seen.{seen_at};
 ghost use Rattle.bor_desk.specs.Kin.{AreKin, AreTaken, IsKinOf, NoneFound, signed_in, signs_in};
-ghost use Rattle.bor_desk.specs.Memory.Indexed.{under};
 ghost use Rattle.bor_desk.specs.Operations.Outcomes.{Accounts, store_fault};
 
-use crate::memory::{Values, note, push_signs};
 use crate::operations::{Keep, StoreFault};
 use bor_chains::Node;
-use bor_records::links::{OpenNode, Sign, node_of};
+use bor_records::links::{OpenNode, Sign, Values, node_of, note, signs_of};
 use bor_terms::{AgentName, Day};
 use std::alloc::{AllocError, Global};
 use std::collections::BTreeMap;
-
-// The signs of an entity.
-fn signs_of(alloc: Global, one: &OpenNode) -> Result<Vec<Sign>, AllocError>
-    ensures { IfOk result (λ found. found.items ≡ signs one.now) }
-{
-    let mut signs = Vec::new(alloc);
-    signs.push(Sign::of_node(alloc, &one.node)?)?;
-    push_signs(alloc, &mut signs, one.identifiers.as_slice())?;
-    Ok(signs)
-}
 
 // Takes the entities that have a sign out of the map, to those that were taken before.
 fn take_signed(

@@ -1,18 +1,17 @@
 //! Maps beside the filings of a register in memory, so that what is asked of a record takes no
 //! scan.
 
-ghost use Rattle.std.specs.Prelude.{◌≡◌, ◌++◌, ◌∷◌, [], OnOk, IfOk, cond, map};
+ghost use Rattle.std.specs.Prelude.{◌≡◌, ◌++◌, [], OnOk, IfOk};
 ghost use Rattle.std.specs.Ordering.{is_eq};
-ghost use Rattle.std.proofs.lemmas.Map.Lookups.{CmpEqualImpliesEq};
 ghost use Rattle.bor_records.specs.Links.Nodes.{node_cmp};
 ghost use Rattle.bor_records.specs.Links.Series.{stated};
-ghost use Rattle.bor_records.specs.Links.Signs.{by_identifier, sign_cmp};
-ghost use Rattle.bor_desk.specs.Memory.Indexed.{AreNoted, IsGrown, IsIndex, IsNoted, key_cmp, key_of, signs_of, subjects_of, under};
+ghost use Rattle.bor_records.specs.Links.Signs.{sign_cmp};
+ghost use Rattle.bor_records.specs.Links.Values.{under};
+ghost use Rattle.bor_desk.specs.Memory.Indexed.{AreNoted, IsGrown, IsIndex, key_cmp, key_of, signs_of, subjects_of};
 ghost use Rattle.bor_desk.specs.Memory.Sited.{places_from};
 
-use crate::memory::values::Values;
-use bods_read::{Details, Identifier, Statement};
-use bor_records::links::{Node, Sign};
+use bods_read::{Details, Statement};
+use bor_records::links::{Node, Sign, Values, note, push_signs, put, under};
 use bor_terms::{AgentName, Ident};
 use std::alloc::{AllocError, Global};
 use std::collections::BTreeMap;
@@ -89,61 +88,29 @@ impl Index {
     pub(crate) fn places_of(&self, node: &Node) -> &[Place]
         ensures { result.now ≡ under node_cmp self.now.series node.now }
     {
-        match self.series.get(node) {
-            Some(places) => places.as_slice(),
-            None => &[],
-        }
+        under(&self.series, node)
     }
 
     /// The places of the statements with an identifier.
     pub(crate) fn places_named(&self, key: &StatementKey) -> &[Place]
         ensures { result.now ≡ under key_cmp self.now.named key.now }
     {
-        match self.named.get(key) {
-            Some(places) => places.as_slice(),
-            None => &[],
-        }
+        under(&self.named, key)
     }
 
     /// The relationships that have named a record as their subject, some maybe more than once.
     pub(crate) fn naming(&self, subject: &Node) -> &[Node]
         ensures { result.now ≡ under node_cmp self.now.naming subject.now }
     {
-        match self.naming.get(subject) {
-            Some(records) => records.as_slice(),
-            None => &[],
-        }
+        under(&self.naming, subject)
     }
 
     /// The entities that have had a sign, some maybe more than once.
     pub(crate) fn signed(&self, sign: &Sign) -> &[Node]
         ensures { result.now ≡ under sign_cmp self.now.signed sign.now }
     {
-        match self.signed.get(sign) {
-            Some(records) => records.as_slice(),
-            None => &[],
-        }
+        under(&self.signed, sign)
     }
-}
-
-// Puts a value after those under a key.
-fn put<K: Ord + Drop, V: Drop>(
-    alloc: Global,
-    map: &mut BTreeMap<K, Values<V>>,
-    key: K,
-    value: V,
-) -> Result<(), AllocError>
-    ensures at { OnOk result (under K.cmp map.new key ≡ under K.cmp map.old key ++ value ∷ []) }
-    ensures each { OnOk result ((q : K) → under K.cmp map.new q
-        ≡ cond (is_eq (K.cmp key q)) (under K.cmp map.old key ++ value ∷ [])
-        (under K.cmp map.old q)) }
-{
-    let values = match map.remove(&key) {
-        Some(values) => values.with(alloc, value)?,
-        None => Values::One(value),
-    };
-    map.insert(key, values)?;
-    Ok(())
 }
 
 /// A record of an agent's declaration.
@@ -231,22 +198,6 @@ fn add_named(
     Ok(())
 }
 
-/// Puts a record under each of these keys.
-pub(crate) fn note<K: Ord + Drop>(
-    alloc: Global,
-    map: &mut BTreeMap<K, Values<Node>>,
-    mut keys: Vec<K>,
-    node: &Node,
-) -> Result<(), AllocError>
-    ensures { OnOk result (CmpEqualImpliesEq K.cmp
-        → IsNoted keys.items node.now (under K.cmp map.old) (under K.cmp map.new)) }
-{
-    while let Some(key) = keys.pop() {
-        put(alloc, map, key, node.copy(alloc)?)?;
-    }
-    Ok(())
-}
-
 // The record that a statement names as its subject.
 fn subjects_of(
     alloc: Global,
@@ -281,20 +232,6 @@ fn add_naming(
         let keys = subjects_of(alloc, agent, statement)?;
         let node = record_of(alloc, agent, statement)?;
         note(alloc, naming, keys, &node)?;
-    }
-    Ok(())
-}
-
-/// Adds the signs of identifiers.
-pub(crate) fn push_signs(
-    alloc: Global,
-    signs: &mut Vec<Sign>,
-    identifiers: &[Identifier],
-) -> Result<(), AllocError>
-    ensures { OnOk result (signs.new.items ≡ signs.old.items ++ map by_identifier identifiers.now) }
-{
-    for identifier in identifiers {
-        signs.push(Sign::of_identifier(alloc, identifier)?)?;
     }
     Ok(())
 }

@@ -20,8 +20,5 @@ mod records;
 mod sight;
 mod standing;
 mod succession;
-mod values;
 
-pub(crate) use index::{note, push_signs};
 pub use list_keep::ListKeep;
-pub(crate) use values::Values;

@@ -32,11 +32,13 @@ mod rows;
 mod search;
 mod sign;
 mod stake;
+mod values;
 
 pub use class::{Class, once};
 pub use node::{Link, Node, NodeInfo, OpenNode, PersonInfo};
 pub use records::Records;
 pub use rows::{info_stated, node_of, record_of};
 pub use search::{aliases, identified, same};
-pub use sign::Sign;
+pub use sign::{Sign, push_signs, signs_of};
 pub use stake::{holding_of, stake_of};
+pub use values::{Values, note, put, under};

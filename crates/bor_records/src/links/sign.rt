@@ -1,11 +1,11 @@
 //! By what two open entities may be alike, so that the aliases of one are looked for among few.
 
-ghost use Rattle.std.specs.Prelude.{◌≡◌, ◌↔◌, ◌&&◌, Contains, IfOk, IsTrue};
+ghost use Rattle.std.specs.Prelude.{◌≡◌, ◌↔◌, ◌&&◌, ◌++◌, Contains, IfOk, OnOk, IsTrue, map};
 ghost use Rattle.std.specs.List.{list_any};
 ghost use Rattle.bor_terms.specs.Texts.{is_same};
-ghost use Rattle.bor_records.specs.Links.Signs.{by_record, by_identifier, signs_with};
+ghost use Rattle.bor_records.specs.Links.Signs.{by_record, by_identifier, signs, signs_with};
 
-use crate::links::node::Node;
+use crate::links::node::{Node, OpenNode};
 use bods_read::{FreeText, Identifier};
 use std::alloc::{AllocError, Global};
 
@@ -70,4 +70,28 @@ impl Sign {
             self.names_one(identifiers)
         }
     }
+}
+
+/// Adds the signs of identifiers.
+pub fn push_signs(
+    alloc: Global,
+    signs: &mut Vec<Sign>,
+    identifiers: &[Identifier],
+) -> Result<(), AllocError>
+    ensures { OnOk result (signs.new.items ≡ signs.old.items ++ map by_identifier identifiers.now) }
+{
+    for identifier in identifiers {
+        signs.push(Sign::of_identifier(alloc, identifier)?)?;
+    }
+    Ok(())
+}
+
+/// The signs that an entity has.
+pub fn signs_of(alloc: Global, one: &OpenNode) -> Result<Vec<Sign>, AllocError>
+    ensures { IfOk result (λ found. found.items ≡ signs one.now) }
+{
+    let mut signs = Vec::new(alloc);
+    signs.push(Sign::of_node(alloc, &one.node)?)?;
+    push_signs(alloc, &mut signs, one.identifiers.as_slice())?;
+    Ok(signs)
 }

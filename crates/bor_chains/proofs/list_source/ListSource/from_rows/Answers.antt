@@ -7,7 +7,9 @@ use Rattle.bor_records.specs.declared.links.node.Link.{Link}
 use Rattle.bor_records.specs.Links.Nodes.{same_node, node_cmp, link_record}
 use Rattle.bor_records.specs.Links.Rows.{nodes_of, node_in, link_in, links_of}
 use Rattle.bor_chains.specs.Tables.{ArePlaces, AreInto, IsBelow, items_at}
-use Rattle.bor_chains.specs.Likeness.{AreUnder, under}
+use Rattle.bor_records.specs.Links.Signs.{sign_cmp}
+use Rattle.bor_records.specs.Links.Values.{under}
+use Rattle.bor_chains.specs.Likeness.{AreUnder}
 use Rattle.bor_records.proofs.OnLinks.OfRows.{links_distinct}
 use Rattle.bor_records.proofs.OnLinks.Series.{nodes_distinct}
 use Rattle.bor_chains.proofs.Beside.{subject_placed}
@@ -33,6 +35,6 @@ invariant_of-result c =
       subst (λ (xs : List OpenNode). IsDistinct same_node (map (λ y. y.node) xs)) (sym are) (nodes_distinct c.args.day c.args.rows.now),
       subst (λ (xs : List OpenNode). ArePlaces xs (λ n. get node_cmp c.in_ok-places.places n)) c.deref-2.ensures.value c.in_ok-places.ensures,
       subst (λ (ls : List Link). AreInto (length ls) ls (λ n. items_at (λ v. v.items) c.in_ok-into.into.items (get node_cmp c.in_ok-places.places n))) c.deref-5.ensures.value c.in_ok-into.ensures,
-      subst (λ (xs : List OpenNode). AreUnder xs (under c.in_ok-signed.signed)) c.deref-6.ensures.value c.in_ok-signed.ensures,
+      subst (λ (xs : List OpenNode). AreUnder xs (under sign_cmp c.in_ok-signed.signed)) c.deref-6.ensures.value c.in_ok-signed.ensures,
       subst (λ (ls : List Link). IsDistinct same_node (map link_record ls)) (sym made) (links_distinct c.args.day c.args.rows.now),
     )

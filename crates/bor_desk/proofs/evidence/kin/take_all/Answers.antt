@@ -4,7 +4,7 @@ use Rattle.bor_records.specs.declared.links.node.Node.{Node}
 use Rattle.bor_records.specs.declared.links.sign.Sign.{Sign}
 use Rattle.bor_records.specs.Links.Signs.{sign_cmp}
 use Rattle.bor_desk.specs.Kin.{AreTaken}
-use Rattle.bor_desk.specs.Memory.Indexed.{under}
+use Rattle.bor_records.specs.Links.Values.{under}
 use Rattle.bor_desk.proofs.OnEvidence.Kin.{taken_next, taken_none}
 use Rattle.bor_desk.proofs.evidence.kin.take_all.Goals as goal
 

@@ -1,7 +1,7 @@
 use Rattle.std.proofs.Common.{[], take}
 use Rattle.bor_records.specs.Links.Signs.{sign_cmp}
 use Rattle.bor_desk.specs.Kin.{AreTaken}
-use Rattle.bor_desk.specs.Memory.Indexed.{under}
+use Rattle.bor_records.specs.Links.Values.{under}
 use Rattle.bor_desk.proofs.evidence.kin.take_all.Given as goal
 
 -- by the signs so far

@@ -3,7 +3,8 @@ use Rattle.std.specs.Ordering.{is_eq}
 use Rattle.std.proofs.lemmas.List.{drop_all}
 use Rattle.bods_read.specs.declared.statement.Statement.{Statement}
 use Rattle.bor_desk.specs.declared.memory.index.StatementKey.{StatementKey}
-use Rattle.bor_desk.specs.Memory.Indexed.{key_cmp, key_of, under}
+use Rattle.bor_records.specs.Links.Values.{under}
+use Rattle.bor_desk.specs.Memory.Indexed.{key_cmp, key_of}
 use Rattle.bor_desk.specs.Memory.Sited.{places_from}
 use Rattle.bor_desk.proofs.OnMemory.Indexed.{exact_key}
 use Rattle.bor_desk.proofs.OnMemory.Maps.{places_put}

@@ -1,7 +1,8 @@
 use Rattle.std.proofs.Common.{◌≡◌, ◌++◌, drop}
 use Rattle.std.specs.Ordering.{is_eq}
 use Rattle.bor_desk.specs.declared.memory.index.StatementKey.{StatementKey}
-use Rattle.bor_desk.specs.Memory.Indexed.{key_cmp, key_of, under}
+use Rattle.bor_records.specs.Links.Values.{under}
+use Rattle.bor_desk.specs.Memory.Indexed.{key_cmp, key_of}
 use Rattle.bor_desk.specs.Memory.Sited.{places_from}
 use Rattle.bor_desk.proofs.memory.index.add_named.Given as goal
 

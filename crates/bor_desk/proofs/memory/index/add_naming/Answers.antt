@@ -3,7 +3,8 @@ use Rattle.std.proofs.lemmas.List.{take_all}
 use Rattle.bods_read.specs.declared.statement.Statement.{Statement}
 use Rattle.bor_records.specs.Links.Nodes.{node_cmp}
 use Rattle.bor_records.proofs.OnLinks.Exact.{exact_node}
-use Rattle.bor_desk.specs.Memory.Indexed.{AreNoted, subjects_of, under}
+use Rattle.bor_records.specs.Links.Values.{under}
+use Rattle.bor_desk.specs.Memory.Indexed.{AreNoted, subjects_of}
 use Rattle.bor_desk.proofs.OnMemory.Maps.{all_noted_more, all_noted_none}
 use Rattle.bor_desk.proofs.memory.index.add_naming.Goals as goal
 

@@ -1,6 +1,7 @@
 use Rattle.std.proofs.Common.{take}
 use Rattle.bor_records.specs.Links.Nodes.{node_cmp}
-use Rattle.bor_desk.specs.Memory.Indexed.{AreNoted, subjects_of, under}
+use Rattle.bor_records.specs.Links.Values.{under}
+use Rattle.bor_desk.specs.Memory.Indexed.{AreNoted, subjects_of}
 use Rattle.bor_desk.proofs.memory.index.add_naming.Given as goal
 
 -- the statements so far

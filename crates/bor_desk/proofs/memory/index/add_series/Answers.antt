@@ -5,7 +5,7 @@ use Rattle.bods_read.specs.declared.statement.Statement.{Statement}
 use Rattle.bor_records.specs.Links.Nodes.{node_cmp}
 use Rattle.bor_records.specs.Links.Series.{stated}
 use Rattle.bor_records.proofs.OnLinks.Exact.{exact_node}
-use Rattle.bor_desk.specs.Memory.Indexed.{under}
+use Rattle.bor_records.specs.Links.Values.{under}
 use Rattle.bor_desk.specs.Memory.Sited.{places_from}
 use Rattle.bor_desk.proofs.OnMemory.Maps.{places_put}
 use Rattle.bor_desk.proofs.memory.index.add_series.Goals as goal

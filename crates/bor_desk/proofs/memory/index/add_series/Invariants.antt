@@ -3,7 +3,7 @@ use Rattle.std.specs.Ordering.{is_eq}
 use Rattle.bor_records.specs.declared.links.node.Node.{Node}
 use Rattle.bor_records.specs.Links.Nodes.{node_cmp}
 use Rattle.bor_records.specs.Links.Series.{stated}
-use Rattle.bor_desk.specs.Memory.Indexed.{under}
+use Rattle.bor_records.specs.Links.Values.{under}
 use Rattle.bor_desk.specs.Memory.Sited.{places_from}
 use Rattle.bor_desk.proofs.memory.index.add_series.Given as goal
 

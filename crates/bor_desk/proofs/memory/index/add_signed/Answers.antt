@@ -3,7 +3,8 @@ use Rattle.std.proofs.lemmas.List.{take_all}
 use Rattle.bods_read.specs.declared.statement.Statement.{Statement}
 use Rattle.bor_records.specs.Links.Signs.{sign_cmp}
 use Rattle.bor_records.proofs.OnLinks.Exact.{exact_sign}
-use Rattle.bor_desk.specs.Memory.Indexed.{AreNoted, signs_of, under}
+use Rattle.bor_records.specs.Links.Values.{under}
+use Rattle.bor_desk.specs.Memory.Indexed.{AreNoted, signs_of}
 use Rattle.bor_desk.proofs.OnMemory.Maps.{all_noted_more, all_noted_none}
 use Rattle.bor_desk.proofs.memory.index.add_signed.Goals as goal
 

@@ -1,6 +1,7 @@
 use Rattle.std.proofs.Common.{take}
 use Rattle.bor_records.specs.Links.Signs.{sign_cmp}
-use Rattle.bor_desk.specs.Memory.Indexed.{AreNoted, signs_of, under}
+use Rattle.bor_records.specs.Links.Values.{under}
+use Rattle.bor_desk.specs.Memory.Indexed.{AreNoted, signs_of}
 use Rattle.bor_desk.proofs.memory.index.add_signed.Given as goal
 
 -- the statements so far

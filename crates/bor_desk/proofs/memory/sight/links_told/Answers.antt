@@ -4,7 +4,7 @@ use Rattle.bor_records.specs.declared.links.node.Node.{Node}
 use Rattle.bor_records.specs.Links.Nodes.{node_cmp, same_node}
 use Rattle.bor_records.specs.Links.Candidates.{link_at}
 use Rattle.bor_records.proofs.OnLinks.ByRecord.{links_told, no_links}
-use Rattle.bor_desk.specs.Memory.Indexed.{under}
+use Rattle.bor_records.specs.Links.Values.{under}
 use Rattle.bor_desk.specs.Memory.Sighted.{rows_in_sight}
 use Rattle.bor_desk.proofs.OnMemory.Sighted.{links_covered}
 use Rattle.bor_desk.proofs.OnMemory.Told.{told_then}

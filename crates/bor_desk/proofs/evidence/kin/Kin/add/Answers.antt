@@ -3,7 +3,7 @@ use Rattle.bor_records.specs.declared.links.sign.Sign.{Sign}
 use Rattle.bor_records.proofs.OnLinks.Exact.{exact_sign}
 use Rattle.bor_desk.specs.declared.evidence.kin.Kin.{Kin}
 use Rattle.bor_desk.specs.Kin.{signed_in}
-use Rattle.bor_desk.specs.Memory.Indexed.{IsNoted}
+use Rattle.bor_records.specs.Links.Values.{IsNoted}
 use Rattle.bor_desk.proofs.OnEvidence.Kin.{kin_added}
 use Rattle.bor_desk.proofs.evidence.kin.Kin.add.Goals as goal
 

@@ -3,7 +3,7 @@ use Rattle.std.specs.Prelude.{IfOk}
 use Rattle.bor_records.specs.declared.links.sign.Sign.{Sign}
 use Rattle.bor_records.specs.Links.Signs.{sign_cmp}
 use Rattle.bor_desk.specs.Kin.{AreTaken, signed_in, signs_under}
-use Rattle.bor_desk.specs.Memory.Indexed.{under}
+use Rattle.bor_records.specs.Links.Values.{under}
 use Rattle.bor_desk.proofs.evidence.kin.Kin.take_near.Goals as goal
 
 pub returns-in-Some-clause-taken : goal.returns-in-Some-clause-taken

@@ -4,7 +4,7 @@ use Rattle.bor_records.specs.Links.Answers.{HaveSigned}
 use Rattle.bor_records.specs.Links.Shown.{Shown}
 use Rattle.bor_records.specs.Links.Signs.{sign_cmp}
 use Rattle.bor_records.proofs.OnLinks.SignsOfRows.{rows_signed}
-use Rattle.bor_desk.specs.Memory.Indexed.{under}
+use Rattle.bor_records.specs.Links.Values.{under}
 use Rattle.bor_desk.specs.Memory.Sighted.{in_sight, rows_in_sight}
 use Rattle.bor_desk.proofs.OnMemory.Sighted.{sign_covered}
 use Rattle.bor_desk.proofs.memory.records.SightedRecords.signed.Goals as goal

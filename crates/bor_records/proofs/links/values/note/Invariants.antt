@@ -1,8 +1,8 @@
 use Rattle.std.proofs.Common.{◌⊎◌, ◌≡◌, Contains, vec_len}
 use Rattle.std.proofs.lemmas.Map.Lookups.{CmpEqualImpliesEq}
 use Rattle.bor_records.specs.declared.links.node.Node.{Node}
-use Rattle.bor_desk.specs.Memory.Indexed.{under}
-use Rattle.bor_desk.proofs.memory.index.note.Given as goal
+use Rattle.bor_records.specs.Links.Values.{under}
+use Rattle.bor_records.proofs.links.values.note.Given as goal
 
 -- the node stands under each key that isn't left
 abbrev pub invariant-loop-key : goal.invariant-loop-key

@@ -1,6 +1,6 @@
 use Rattle.std.proofs.Common.{◌≡◌, ◌++◌, drop, map}
 use Rattle.bor_records.specs.Links.Signs.{by_identifier}
-use Rattle.bor_desk.proofs.memory.index.push_signs.Given as goal
+use Rattle.bor_records.proofs.links.sign.push_signs.Given as goal
 
 -- the signs so far and those of what is left are all
 abbrev pub invariant-loop-identifier : goal.invariant-loop-identifier

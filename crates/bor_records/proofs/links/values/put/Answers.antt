@@ -1,8 +1,8 @@
 use Rattle.std.proofs.Common.{◌≡◌, ◌∙◌, ◌++◌, ◌∷◌, [], ap, sym}
-use Rattle.bor_desk.specs.Memory.Indexed.{values_in, values_under, under}
-use Rattle.bor_desk.proofs.OnMemory.Maps.{put_under}
-use Rattle.bor_desk.proofs.memory.index.put.Goals as goal
-use Rattle.bor_desk.proofs.memory.index.put.Goals.{in-Some+in_ok-values-in-Some, in-None}
+use Rattle.bor_records.specs.Links.Values.{values_in, values_under, under}
+use Rattle.bor_records.proofs.OnLinks.Values.{put_under}
+use Rattle.bor_records.proofs.links.values.put.Goals as goal
+use Rattle.bor_records.proofs.links.values.put.Goals.{in-Some+in_ok-values-in-Some, in-None}
 
 -- the values that are put
 put : (g : _) (c : goal.Joined-branch-3 g) → values_in c.match-remove.values ≡ under g.K.Ord.cmp c.args.map.now c.args.key ++ c.args.value ∷ []

@@ -1,8 +1,8 @@
 use Rattle.std.proofs.Common.{◌≡◌, ◌∙◌, ◌∷◌, [], List, Contains, inl, inr, length, arith, subst, sym}
 use Rattle.std.proofs.lemmas.List.Elements.{Contains-append_left, Contains-push}
-use Rattle.bor_desk.specs.Memory.Indexed.{under}
-use Rattle.bor_desk.proofs.OnMemory.Maps.{only_put, put_there, stays_put}
-use Rattle.bor_desk.proofs.memory.index.note.Goals as goal
+use Rattle.bor_records.specs.Links.Values.{under}
+use Rattle.bor_records.proofs.OnLinks.Values.{only_put, put_there, stays_put}
+use Rattle.bor_records.proofs.links.values.note.Goals as goal
 
 pub loop-key-init : goal.loop-key-init
 loop-key-init g c = record {
