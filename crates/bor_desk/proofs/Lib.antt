@@ -11,7 +11,6 @@ pub mod Examples
 pub mod StepExamples
 pub mod Worlds
 pub mod OnOperations
-pub mod OnMemory
 pub mod OnMirror
 pub mod OnEvidence
 pub mod Past

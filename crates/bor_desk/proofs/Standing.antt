@@ -31,7 +31,7 @@ use Rattle.bor_desk.specs.Operations.Withdrawing.{own_withdrawn_at}
 use Rattle.bor_desk.specs.Runs.{exchange, register_after}
 use Rattle.bor_desk.specs.Step.{agent_step, own_after, registrar_step, step}
 use Rattle.bor_desk.specs.Standing.{IsSublist, IsStanding, PublishedStays, published_by}
-use Rattle.bor_desk.proofs.OnMemory.Indexed.{changed}
+use Rattle.bor_register.proofs.OnMemory.Indexed.{changed}
 use Rattle.bor_desk.proofs.OnOperations.Legality.{own_legal}
 use Rattle.bor_desk.proofs.OnOperations.Prefixes.{front_by, published_read}
 use Rattle.bor_desk.proofs.OnOperations.Renewals.{renewal-renews_token}

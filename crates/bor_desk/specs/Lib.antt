@@ -13,5 +13,4 @@ pub mod Limits
 pub mod CheckReport
 pub mod ChainReport
 pub mod Operations
-pub mod Memory
 pub mod Mirror

@@ -16,8 +16,8 @@
 //! ```
 //!
 //! [`check_text`], [`report_text`] and [`evidence_text`] give what `bor check` and `bor report`
-//! print. What is done to a register on the way stands in [`operations`], the register in memory in
-//! [`memory`], and a keep with such a register beside it in [`mirror`].
+//! print. What is done to a register on the way stands in [`operations`], and a keep with a register in
+//! memory beside it in [`mirror`].
 //!
 //! Nothing is read or printed here, and no HTTP is known of: requests come in as values, and
 //! replies go out as values or as bytes of a text.
@@ -27,7 +27,6 @@ mod check;
 mod desk;
 mod evidence;
 pub mod laws;
-pub mod memory;
 pub mod mirror;
 pub mod operations;
 mod refusal;

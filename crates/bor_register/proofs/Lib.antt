@@ -13,3 +13,4 @@ pub mod OneAgent
 pub mod WithoutFiles
 pub mod BareReads
 pub mod BareChanges
+pub mod OnMemory

@@ -11,3 +11,4 @@ pub mod Seen
 pub mod Bare
 pub mod Additions
 pub mod Held
+pub mod Memory

@@ -16,7 +16,7 @@
 //! Each keep of members calls the functions here on them, wherever it gets them from: who has a
 //! token ([`caller_with`]), filings and their lines, the rows that a viewer sees, what is published,
 //! and how much of it each agent has ([`all_agents`]). What a keep of a register promises stands in
-//! [`keeping`].
+//! [`keeping`], and one in memory in [`memory`].
 #![tactic(auto)]
 
 mod agents;
@@ -28,6 +28,7 @@ mod held;
 pub mod keeping;
 pub mod laws;
 mod member;
+pub mod memory;
 mod publication;
 mod rows;
 mod statements;
@@ -40,8 +41,8 @@ pub use filing::{AcceptedFiling, Filing, FilingLine, Outward, State};
 pub use filings::{all_lines, filing_under, is_filed, line_under};
 pub use held::statement_count;
 pub use member::{
-    Member, caller_with, enrol_member, is_enrolled, own_filings, push_filing, renew_token,
-    withdraw_of,
+    FILINGS_LIMIT, Member, caller_with, enrol_member, is_enrolled, own_filings, push_filing,
+    renew_token, withdraw_of,
 };
 pub use publication::all_published;
 pub use rows::{all_visible, row_of, rows_seen};

@@ -16,6 +16,9 @@ use bods_read::Statement;
 use bor_terms::{AgentName, Day, Listed, LodgeKey, Token};
 use std::alloc::{AllocError, Global};
 
+/// The most filings that an agent may ever have, withdrawn ones included.
+pub const FILINGS_LIMIT: usize = 999;
+
 /// An agent of the register, with its filings in order of acceptance.
 #[derive(Drop)]
 pub struct Member {

@@ -11,7 +11,7 @@ ghost use Rattle.bor_store.specs.Telling.{tells, tells_made, store_fault_of};
 
 use crate::lodging::add_next_filing;
 use bods_read::{Identifier, Statement};
-use bor_desk::memory::ListKeep;
+use bor_register::memory::ListKeep;
 use bor_desk::mirror::MirrorStore;
 use bor_records::links::{Link, Node, NodeInfo};
 use bor_records::{Last, Row};

@@ -26,7 +26,7 @@ use Rattle.bor_desk.specs.declared.evidence.ways.Ways.{Ways}
 use Rattle.bor_desk.specs.Kin.{AreTaken, IsKinOf, signed_in, signs_in}
 use Rattle.bor_desk.specs.Ways.{IsAway, IsNearer, Followers, AreAdded, IsFirstAlias, AreAll, AreFoundFrom, AreKnown, AreOfClass, AreWaysTo}
 use Rattle.bor_desk.proofs.OnEvidence.Kin.{alias_taken, kin_taken, kin_then, taken_alias}
-use Rattle.bor_desk.proofs.OnMemory.Lists.{get_next}
+use Rattle.bor_register.proofs.OnMemory.Lists.{get_next}
 
 -- ---- what is there
 

@@ -5,7 +5,7 @@ use Rattle.bor_records.specs.Promises.{ChangesWhere, Leaves, Meaning, Reads, Sta
 use Rattle.bor_register.specs.Register.{Register}
 use Rattle.bor_register.specs.declared.fault.StoreFault.{StoreFault}
 use Rattle.bor_register.specs.declared.fault.StoreFault.TheVariants as fault
-use Rattle.bor_desk.specs.Memory.Holding.{Holding}
+use Rattle.bor_register.specs.Memory.Holding.{Holding}
 use Rattle.bor_register.specs.Bare.{bare_register}
 use Rattle.bor_desk.specs.Mirror.Following.{IsFollowed, Mirrors, mirrored}
 use Rattle.bor_desk.specs.Mirror.Reading.{HasAnswered, IsReadOfEither, of_mirror, of_store}

@@ -4,7 +4,7 @@ use Rattle.bor_records.specs.Promises.{Meaning}
 use Rattle.bor_register.specs.Bare.{bare_register}
 use Rattle.bor_register.specs.declared.fault.StoreFault.{StoreFault}
 use Rattle.bor_register.specs.Register.{Register}
-use Rattle.bor_desk.specs.Memory.Holding.{Holding}
+use Rattle.bor_register.specs.Memory.Holding.{Holding}
 
 -- A mirror that is there after the change was there before it, and where the change fits what it
 -- held, it holds what the change makes of that.

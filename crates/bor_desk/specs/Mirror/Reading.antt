@@ -2,7 +2,7 @@
 use Rattle.std.specs.Prelude.{◌≡◌, ◌⊎◌, Option, Some, Result, Ok, Err}
 use Rattle.bor_register.specs.declared.fault.StoreFault.{StoreFault}
 use Rattle.bor_register.specs.Register.{Register}
-use Rattle.bor_desk.specs.Memory.Holding.{Holding}
+use Rattle.bor_register.specs.Memory.Holding.{Holding}
 
 -- the mirror was there, and has answered this
 pub record HasAnswered {T : Type 0}

@@ -4,9 +4,9 @@ ghost use Rattle.std.specs.Prelude.{◌≡◌, IfOk, IfSome};
 ghost use Rattle.bor_records.specs.Promises.{Reads};
 ghost use Rattle.bor_register.specs.Bare.{bare_register};
 
-use crate::memory::ListKeep;
 use bor_register::StoreFault;
 use bor_register::keeping::Keep;
+use bor_register::memory::ListKeep;
 
 /// A keep that can be mirrored: it hands out its register whole.
 pub trait MirrorStore: Keep {

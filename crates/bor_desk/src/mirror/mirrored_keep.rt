@@ -6,16 +6,16 @@ ghost use Rattle.bor_records.specs.Promises.{Kept, StaysClean};
 ghost use Rattle.bor_register.specs.Additions.{MayEnrol, MayFile, with_agent, with_filing, with_renewal, with_withdrawal};
 ghost use Rattle.bor_register.specs.Held.{statement_count};
 ghost use Rattle.bor_register.specs.Register.{Register};
-ghost use Rattle.bor_desk.specs.Memory.Holding.{Holding};
+ghost use Rattle.bor_register.specs.Memory.Holding.{Holding};
 ghost use Rattle.bor_desk.specs.Mirror.Following.{IsFollowed};
 ghost use Rattle.bor_desk.specs.Mirror.Reading.{IsReadOfEither};
 
-use crate::memory::ListKeep;
 use crate::mirror::mirror_store::MirrorStore;
 use bods_read::{Identifier, Statement};
 use bor_records::links::{Link, Node, NodeInfo};
 use bor_records::{Last, Row};
 use bor_register::keeping::Keep;
+use bor_register::memory::ListKeep;
 use bor_register::{AgentLine, Caller, Filing, FilingLine, Outward, StoreFault};
 use bor_terms::{AgentName, Day, Ident, LodgeKey, Token};
 use std::marker::Model;
@@ -41,7 +41,7 @@ pub struct MirroredKeep<K: MirrorStore + Drop> {
 
 impl<K: MirrorStore + Drop> Model for MirroredKeep<K> {
     ghost use Rattle.std.specs.Prelude.{◌≡◌, Option, option_map, true};
-    ghost use Rattle.bor_desk.specs.Memory.Holding.{Holding};
+    ghost use Rattle.bor_register.specs.Memory.Holding.{Holding};
     ghost use Rattle.bor_register.specs.Register.{Register};
 
     ghost Value = { K × Option Register };

@@ -24,12 +24,9 @@ use crate::operations::fault::LodgeFault;
 use bods_read::{ReadFault, Statement, Status, read_file};
 use bor_records::{Last, admit};
 use bor_register::keeping::Keep;
-use bor_register::{FilingLine, State, StoreFault};
+use bor_register::{FILINGS_LIMIT, FilingLine, State, StoreFault};
 use bor_terms::{AgentName, Day, Ident, LodgeKey};
 use std::alloc::Global;
-
-/// The most filings that an agent may ever have, withdrawn ones included.
-pub const FILINGS_LIMIT: usize = 999;
 
 /// The reply to an agent on a filing that it lodged.
 #[derive(Clone, Copy, PartialEq, Eq)]

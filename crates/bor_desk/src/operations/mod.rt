@@ -29,13 +29,14 @@ mod lodging;
 mod registrar;
 mod withdrawal;
 
-pub use crate::memory::ListKeep;
 pub use bor_register::keeping::Keep;
+pub use bor_register::memory::ListKeep;
 pub use bor_register::{
-    AcceptedFiling, AgentLine, Caller, Filing, FilingLine, Member, Outward, State, StoreFault,
+    AcceptedFiling, AgentLine, Caller, FILINGS_LIMIT, Filing, FilingLine, Member, Outward, State,
+    StoreFault,
 };
 pub use fault::{AdvanceFault, EnrolFault, LodgeFault, RenewFault, WithdrawFault};
 pub use keep_source::KeepSource;
-pub use lodging::{FILINGS_LIMIT, Lodged, lodge};
+pub use lodging::{Lodged, lodge};
 pub use registrar::{advance, enrol, renew};
 pub use withdrawal::withdraw;

@@ -1,5 +1,5 @@
 use Rattle.std.proofs.Common.{refl, ◌∙◌, ap}
-use Rattle.bor_desk.specs.Memory.Holding.{Holding}
+use Rattle.bor_register.specs.Memory.Holding.{Holding}
 use Rattle.bor_desk.proofs.check.lodged_text.Goals as goal
 
 pub enrol_agent-requires : goal.enrol_agent-requires

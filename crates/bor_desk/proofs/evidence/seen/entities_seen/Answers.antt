@@ -8,7 +8,7 @@ use Rattle.bor_desk.specs.Evidence.{AreRecords}
 use Rattle.bor_desk.specs.Mentioned.{records_at}
 use Rattle.bor_desk.specs.Operations.Sight.{seen_by}
 use Rattle.bor_desk.proofs.OnEvidence.Mentions.{identified_open, records_of}
-use Rattle.bor_desk.proofs.OnMemory.Told.{told_then}
+use Rattle.bor_register.proofs.OnMemory.Told.{told_then}
 use Rattle.bor_desk.proofs.OnOperations.SeenLinks.{numbers_make_no_links}
 use Rattle.bor_desk.proofs.evidence.seen.entities_seen.Goals as goal
 

@@ -10,7 +10,7 @@ use Rattle.bor_desk.specs.Kin.{IsKinOf, NoneFound}
 use Rattle.bor_desk.specs.Ways.{AreWaysTo}
 use Rattle.bor_desk.proofs.OnEvidence.Kin.{kin_then}
 use Rattle.bor_desk.proofs.OnEvidence.Ways.{kin_out}
-use Rattle.bor_desk.proofs.OnMemory.Told.{told_then}
+use Rattle.bor_register.proofs.OnMemory.Told.{told_then}
 use Rattle.bor_desk.proofs.evidence.ways.Ways.take_kin.Goals as goal
 
 pub returns-in-Some-clause-answer : goal.returns-in-Some-clause-answer

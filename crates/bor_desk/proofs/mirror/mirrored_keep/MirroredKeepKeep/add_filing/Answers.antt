@@ -2,7 +2,7 @@ use Rattle.std.proofs.Common.{[], Option, subst, sym}
 use Rattle.bor_register.specs.Additions.{MayFile, with_filing}
 use Rattle.bor_register.specs.Register.{Register}
 use Rattle.bor_register.proofs.BareChanges.{filed-bare, may_file-bare}
-use Rattle.bor_desk.specs.Memory.Holding.{Holding}
+use Rattle.bor_register.specs.Memory.Holding.{Holding}
 use Rattle.bor_desk.specs.Mirror.Following.{IsFollowed}
 use Rattle.bor_desk.proofs.OnMirror.Mirroring.{failed_both, follows, made_both, register_in}
 use Rattle.bor_desk.proofs.mirror.mirrored_keep.MirroredKeepKeep.add_filing.Goals as goal

@@ -1,7 +1,7 @@
 use Rattle.std.proofs.Common.{refl, Option, subst}
 use Rattle.bor_records.proofs.Sure.{changes_always, sure_changes}
 use Rattle.bor_register.specs.Register.{Register}
-use Rattle.bor_desk.specs.Memory.Holding.{Holding}
+use Rattle.bor_register.specs.Memory.Holding.{Holding}
 use Rattle.bor_desk.specs.Mirror.Following.{IsFollowed, mirrored}
 use Rattle.bor_desk.proofs.OnMirror.Mirroring.{failed_both, follows, made_both, register_in}
 use Rattle.bor_desk.proofs.mirror.mirrored_keep.MirroredKeepKeep.set_day.Goals as goal

@@ -3,7 +3,7 @@ use Rattle.bor_records.proofs.Sure.{changes_always, sure_changes}
 use Rattle.bor_register.specs.Additions.{with_renewal}
 use Rattle.bor_register.specs.Register.{Register}
 use Rattle.bor_register.proofs.BareChanges.{renewed-bare}
-use Rattle.bor_desk.specs.Memory.Holding.{Holding}
+use Rattle.bor_register.specs.Memory.Holding.{Holding}
 use Rattle.bor_desk.specs.Mirror.Following.{IsFollowed, mirrored}
 use Rattle.bor_desk.proofs.OnMirror.Mirroring.{failed_both, follows, made_both, register_in}
 use Rattle.bor_desk.proofs.mirror.mirrored_keep.MirroredKeepKeep.set_token.Goals as goal

@@ -1,6 +1,6 @@
 use Rattle.std.proofs.Common.{◌≡◌, ◌∙◌, Option, Some, ap, refl, sym}
 use Rattle.bor_register.specs.Register.{Register}
-use Rattle.bor_desk.specs.Memory.Holding.{Holding}
+use Rattle.bor_register.specs.Memory.Holding.{Holding}
 use Rattle.bor_register.specs.Bare.{bare_register}
 use Rattle.bor_register.proofs.BareReads.{caller-bare}
 use Rattle.bor_desk.proofs.OnMirror.Mirroring.{by_mirror, by_store, register_in}

@@ -4,7 +4,7 @@ use Rattle.bor_register.specs.Additions.{with_withdrawal}
 use Rattle.bor_register.specs.declared.member.Member.{Member}
 use Rattle.bor_register.proofs.BareChanges.{withdrawn-bare}
 use Rattle.bor_register.specs.Register.{Register}
-use Rattle.bor_desk.specs.Memory.Holding.{Holding}
+use Rattle.bor_register.specs.Memory.Holding.{Holding}
 use Rattle.bor_desk.specs.Mirror.Following.{IsFollowed, mirrored}
 use Rattle.bor_desk.proofs.OnMirror.Mirroring.{failed_both, follows, made_both, register_in}
 use Rattle.bor_desk.proofs.mirror.mirrored_keep.MirroredKeepKeep.withdraw.Goals as goal

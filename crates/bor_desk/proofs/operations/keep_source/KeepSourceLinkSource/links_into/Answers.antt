@@ -1,7 +1,7 @@
 use Rattle.std.proofs.Common.{List, ℕ, ℤ, IfOk, subst}
 use Rattle.bor_records.specs.Links.Answers.{AreLinksInto}
 use Rattle.bor_register.specs.Seen.{seen_at}
-use Rattle.bor_desk.proofs.OnMemory.Told.{told_then}
+use Rattle.bor_register.proofs.OnMemory.Told.{told_then}
 use Rattle.bor_desk.proofs.operations.keep_source.KeepSourceLinkSource.links_into.Goals as goal
 
 pub returns-clause-reads : goal.returns-clause-reads

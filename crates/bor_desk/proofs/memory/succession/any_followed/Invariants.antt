@@ -1,8 +1,0 @@
-use Rattle.std.proofs.Common.{◌≡◌, ◌+◌, drop}
-use Rattle.std.specs.List.{list_any}
-use Rattle.bor_desk.proofs.OnMemory.Succeeded.{is_shared}
-use Rattle.bor_desk.proofs.memory.succession.any_followed.Given as goal
-
--- what is left gives what all give
-abbrev pub invariant-loop-statement : goal.invariant-loop-statement
-invariant-loop-statement l = list_any (is_shared (drop (l.at + 1) l.filings)) (drop l.statement-index l.filing.statements) ≡ list_any (is_shared (drop (l.at + 1) l.filings)) l.filing.statements

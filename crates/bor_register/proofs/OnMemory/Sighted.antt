@@ -1,0 +1,122 @@
+-- The nodes and links that a viewer sees, by the statements that records show.
+use Rattle.std.proofs.Common.{◌≡◌, ◌↔◌, ℕ, ℤ, true, false, Option, Some, None, option_map, option_and_then, List, [], ◌∷◌, Contains, refl, ◌∙◌, sym, ap, subst}
+use Rattle.std.specs.Prelude.{IsTrue, ◌&&◌}
+use Rattle.std.proofs.lemmas.Bool.{and_parts}
+use Rattle.std.proofs.lemmas.Option.{same_Some}
+use Rattle.bor_terms.specs.Texts.{is_same}
+use Rattle.bor_terms.proofs.Texts.{same_is}
+use Rattle.bods_read.specs.declared.details.Details.{Details}
+use Rattle.bods_read.specs.declared.details.Details.TheVariants as details
+use Rattle.bods_read.specs.declared.statement.Statement.{Statement}
+use Rattle.bor_records.specs.declared.links.node.Node.{Node}
+use Rattle.bor_records.specs.declared.links.node.OpenNode.{OpenNode}
+use Rattle.bor_records.specs.declared.links.sign.Sign.{Sign}
+use Rattle.bor_records.specs.declared.row.Row.{Row}
+use Rattle.bor_records.specs.Links.Answers.{only_into}
+use Rattle.bor_records.specs.Links.ByKey.{node_at}
+use Rattle.bor_records.specs.Links.Rows.{info_stated, link_with, node_in, node_with, nodes_of, shown_of}
+use Rattle.bor_records.specs.Links.Series.{open_at, series_of, stated}
+use Rattle.bor_records.specs.Links.Shown.{entity_identifiers, identifiers_in, info_of, is_entity}
+use Rattle.bor_records.specs.Links.Signs.{signs}
+use Rattle.bor_records.proofs.OnLinks.ByKey.{listed_by_key, open_at_in}
+use Rattle.bor_records.proofs.OnLinks.Found.{here}
+use Rattle.bor_records.specs.Links.Alike.{CoverSign}
+use Rattle.bor_records.specs.Links.Candidates.{is_into, link_at, link_into, names}
+use Rattle.bor_register.specs.declared.member.Member.{Member}
+use Rattle.bor_register.specs.Register.{IsOrdered}
+use Rattle.bor_register.specs.Rows.{visible}
+use Rattle.bor_register.specs.Memory.Indexed.{AllNoted, record_beside, signs_in, signs_of, subjects_in, subjects_of}
+use Rattle.bor_register.specs.Memory.Sighted.{as_row, identifiers_stated}
+use Rattle.bor_register.proofs.OnMemory.Rows.{seen-live}
+
+-- ---- nodes
+
+info_made : (n : Node) (d : Details) → option_map (λ (x : OpenNode). x.info) (node_with n d) ≡ info_stated d
+info_made n (details.Entity kind name identifiers) = refl
+info_made n (details.Person kind name) = refl
+info_made n (details.Relationship subject party interests) = refl
+
+identifiers_made : (n : Node) (d : Details) → identifiers_stated d ≡ option_and_then entity_identifiers (node_with n d)
+identifiers_made n (details.Entity kind name identifiers) = refl
+identifiers_made n (details.Person kind name) = refl
+identifiers_made n (details.Relationship subject party interests) = refl
+
+module _ (day : ℤ) (rows : List Row) (n : Node) where
+  -- a node is what the statement says that its record shows
+  pub node_open : (t : Option Statement) → t ≡ option_map (λ (r : Row). r.statement) (open_at day n rows) → option_and_then (λ (s : Statement). node_with n s.details) t ≡ node_at day n rows
+  node_open t is = ap (option_and_then (λ (s : Statement). node_with n s.details)) is ∙ go (open_at day n rows) refl
+    where
+      go : (o : Option Row) → open_at day n rows ≡ o → option_and_then (λ (s : Statement). node_with n s.details) (option_map (λ (r : Row). r.statement) o) ≡ option_and_then node_in o
+      go None e = refl
+      go (Some r) e = ap (λ (m : Node). node_with m r.statement.details) (sym (open_at_in day n rows r e).1)
+
+  pub info_open : (t : Option Statement) → t ≡ option_map (λ (r : Row). r.statement) (open_at day n rows) → option_and_then (λ (s : Statement). info_stated s.details) t ≡ info_of (shown_of day rows) n
+  info_open t is = go t ∙ ap (option_map (λ (x : OpenNode). x.info)) (node_open t is ∙ sym (listed_by_key day n rows))
+    where
+      go : (o : Option Statement) → option_and_then (λ (s : Statement). info_stated s.details) o ≡ option_map (λ (x : OpenNode). x.info) (option_and_then (λ (s : Statement). node_with n s.details) o)
+      go None = refl
+      go (Some s) = sym (info_made n s.details)
+
+  pub identifiers_open : (t : Option Statement) → t ≡ option_map (λ (r : Row). r.statement) (open_at day n rows) → option_and_then (λ (s : Statement). identifiers_stated s.details) t ≡ identifiers_in (nodes_of day rows) n
+  identifiers_open t is = go t ∙ ap (option_and_then entity_identifiers) (node_open t is ∙ sym (listed_by_key day n rows))
+    where
+      go : (o : Option Statement) → option_and_then (λ (s : Statement). identifiers_stated s.details) o ≡ option_and_then entity_identifiers (option_and_then (λ (s : Statement). node_with n s.details) o)
+      go None = refl
+      go (Some s) = identifiers_made n s.details
+
+link_placed : (day : ℤ) (nodes : List OpenNode) (r : Row) (agent : List ℕ) (d : Details) → r.agent ≡ agent → link_with day nodes r d ≡ link_with day nodes (as_row agent r.statement) d
+link_placed day nodes r agent d e = subst (λ (a : List ℕ). link_with day nodes r d ≡ link_with day nodes (as_row a r.statement) d) e (go d)
+  where
+    go : (d : Details) → link_with day nodes r d ≡ link_with day nodes (as_row r.agent r.statement) d
+    go (details.Entity kind name identifiers) = refl
+    go (details.Person kind name) = refl
+    go (details.Relationship None party interests) = refl
+    go (details.Relationship (Some subject) None interests) = refl
+    go (details.Relationship (Some subject) (Some party) interests) = refl
+
+-- the link that a record makes is the one that its statement makes
+pub link_open : (day : ℤ) (rows : List Row) (n k : Node) (t : Option Statement) → t ≡ option_map (λ (r : Row). r.statement) (open_at day k rows) → option_and_then (λ (s : Statement). link_into day rows n (as_row k.agent s)) t ≡ link_at day rows n k
+link_open day rows n k t is = ap (option_and_then (λ (s : Statement). link_into day rows n (as_row k.agent s))) is ∙ go (open_at day k rows) refl
+  where
+    go : (o : Option Row) → open_at day k rows ≡ o → option_and_then (λ (s : Statement). link_into day rows n (as_row k.agent s)) (option_map (λ (r : Row). r.statement) o) ≡ option_and_then (link_into day rows n) o
+    go None e = refl
+    go (Some r) e = ap (only_into n) (sym (link_placed day (nodes_of day rows) r k.agent r.statement.details (ap (λ (m : Node). m.agent) (open_at_in day k rows r e).1)))
+
+-- a relationship into a node names it
+named_in : (n : Node) (agent : List ℕ) (s : Statement) (d : Details) → is_same agent n.agent ≡ true → is_same s.declaration n.declaration ≡ true → names n.rec d ≡ true → Contains (subjects_in agent s d) n
+named_in n agent s (details.Entity kind name identifiers) a d h = absurd cc
+named_in n agent s (details.Person kind name) a d h = absurd cc
+named_in n agent s (details.Relationship None party interests) a d h = absurd cc
+named_in n agent s (details.Relationship (Some subject) party interests) a d h =
+    let is : record_beside agent s subject ≡ n =
+    ap (λ (t : List ℕ). let m : Node = record { agent = t; declaration = s.declaration; rec = subject } in m) (same_is agent n.agent a)
+    ∙ ap (λ (t : List ℕ). let m : Node = record { agent = n.agent; declaration = t; rec = subject } in m) (same_is s.declaration n.declaration d)
+    ∙ ap (λ (t : List ℕ). let m : Node = record { agent = n.agent; declaration = n.declaration; rec = t } in m) (same_is subject n.rec h) in
+    subst (λ (m : Node). Contains (m ∷ []) n) (sym is) (here n [])
+
+subject_named : (n : Node) (agent : List ℕ) (s : Statement) → is_into n agent s ≡ true → Contains (subjects_of agent s) n
+subject_named n agent s h =
+    let one = and_parts (is_same agent n.agent) (is_same s.declaration n.declaration && names n.rec s.details) h in
+    let two = and_parts (is_same s.declaration n.declaration) (names n.rec s.details) one.1 in
+    named_in n agent s s.details one.0 two.0 two.1
+
+module _ (viewer : List ℕ) (today : ℤ) (ms : List Member) (ordered : IsOrdered ms) where
+  -- the records that have named a node are those of the rows into it, and more
+  pub links_covered : (naming : Node → List Node) → AllNoted subjects_of ms naming → (n : Node) (candidates : List Node) → ((k : Node) → Contains candidates k ↔ Contains (naming n) k)
+      → (r : Row) → Contains (visible viewer today ms) r → is_into n r.agent r.statement ≡ true → Contains candidates (series_of r)
+  links_covered naming noted n candidates same r h into =
+      (same (series_of r)).1 (noted r.agent r.statement n (seen-live viewer today ms ordered r h) (subject_named n r.agent r.statement into))
+
+  -- ---- signs
+
+  entity_signs : (n : Node) (d : Details) (x : OpenNode) → node_with n d ≡ Some x → IsTrue (is_entity x.info) → signs_in n d ≡ signs x
+  entity_signs n (details.Entity kind name identifiers) x e entity = ap signs (same_Some _ x e)
+  entity_signs n (details.Person kind name) x e entity =
+      let no : false ≡ true = ap (λ (y : OpenNode). is_entity y.info) (same_Some _ x e) ∙ entity in absurd cc
+  entity_signs n (details.Relationship subject party interests) x e entity = let no : None ≡ Some x = e in absurd cc
+
+  -- the records that have had a sign are those of the rows of entities that have it, and more
+  pub sign_covered : (signed : Sign → List Node) → AllNoted signs_of ms signed → (k : Sign) → CoverSign (visible viewer today ms) k (signed k)
+  sign_covered signed noted k row x h at entity has =
+      noted row.agent row.statement k (seen-live viewer today ms ordered row h)
+      (subst (λ (ks : List Sign). Contains ks k) (sym (entity_signs (stated row.agent row.statement) row.statement.details x at entity)) has)
