@@ -22,8 +22,8 @@ abbrev pub signs_under : Option (Vec Sign Global) → List Sign
 signs_under None = []
 signs_under (Some v) = v.items
 
-abbrev pub signs_in : Kin → Node → List Sign
-signs_in kin n = signs_under (get node_cmp kin.signs n)
+abbrev pub signs_listed : Kin → Node → List Sign
+signs_listed kin n = signs_under (get node_cmp kin.signs n)
 
 abbrev pub signed_in : Kin → Sign → List Node
 signed_in kin k = under sign_cmp kin.signed k
@@ -32,10 +32,10 @@ signed_in kin k = under sign_cmp kin.signed k
 -- the nodes that have it, but for those that were found.
 pub record AreKin (s : Shown) (nodes : List Node) (IsFound : Node → Type 0)
     (kin : Kin) : Type 0 where
-  pub of_node : (n : Node) (k : Sign) → Contains (signs_in kin n) k → HasSignAt s n k
+  pub of_node : (n : Node) (k : Sign) → Contains (signs_listed kin n) k → HasSignAt s n k
   pub of_sign : (n : Node) (k : Sign) → Contains (signed_in kin k) n → HasSignAt s n k
   pub each : (n : Node) (k : Sign) → Contains nodes n → HasSignAt s n k
-      → Contains (signs_in kin n) k
+      → Contains (signs_listed kin n) k
   pub every : (n : Node) (k : Sign) → Contains nodes n → HasSignAt s n k
       → Contains (signed_in kin k) n ⊎ IsFound n
 

@@ -28,7 +28,7 @@ use Rattle.bor_records.proofs.OnLinks.Listed.{found_is}
 use Rattle.bor_records.proofs.OnLinks.Sames.{alias_turn, same_turn}
 use Rattle.bor_records.proofs.OnLinks.Signs.{in_common, common_alike}
 use Rattle.bor_desk.specs.declared.evidence.kin.Kin.{Kin}
-use Rattle.bor_desk.specs.Kin.{AreKin, AreTaken, HasSignAt, IsKinOf, NoneFound, signed_in, signs_in, signs_under}
+use Rattle.bor_desk.specs.Kin.{AreKin, AreTaken, HasSignAt, IsKinOf, NoneFound, signed_in, signs_listed, signs_under}
 use Rattle.bor_records.specs.declared.links.values.Values.{Values}
 use Rattle.bor_records.specs.Links.Values.{IsNoted, values_under, under}
 use Rattle.bor_records.proofs.OnLinks.Values.{empty_under}
@@ -145,10 +145,10 @@ module _ (s : Shown) (nodes : List Node) (one : OpenNode) (kin new : Kin) (key :
     (put : (q : Node) → get node_cmp new.signs q ≡ cond (is_eq (node_cmp key q)) (Some v) (get node_cmp kin.signs q)) (noted : IsNoted (signs one) one.node (signed_in kin) (signed_in new))
     (listed : listed_at s.nodes one.node ≡ Some one) (entity : IsTrue (is_entity one.info)) where
   -- the signs of a node are its own, or as before
-  signs_put : (n : Node) → ((one.node ≡ n) × (signs_in new n ≡ signs one)) ⊎ (signs_in new n ≡ signs_in kin n)
+  signs_put : (n : Node) → ((one.node ≡ n) × (signs_listed new n ≡ signs one)) ⊎ (signs_listed new n ≡ signs_listed kin n)
   signs_put n = at (is_eq (node_cmp key n)) refl
     where
-      at : (b : Bool) → is_eq (node_cmp key n) ≡ b → ((one.node ≡ n) × (signs_in new n ≡ signs one)) ⊎ (signs_in new n ≡ signs_in kin n)
+      at : (b : Bool) → is_eq (node_cmp key n) ≡ b → ((one.node ≡ n) × (signs_listed new n ≡ signs one)) ⊎ (signs_listed new n ≡ signs_listed kin n)
       at true e = inl (sym keyed ∙ tells_apart exact_node key n e, ap (λ (o : Option (Vec Sign Global)). signs_under o) (put n ∙ ap (λ (b : Bool). cond b (Some v) (get node_cmp kin.signs n)) e) ∙ own)
       at false e = inr (ap (λ (o : Option (Vec Sign Global)). signs_under o) (put n ∙ ap (λ (b : Bool). cond b (Some v) (get node_cmp kin.signs n)) e))
 
@@ -169,7 +169,7 @@ module _ (s : Shown) (nodes : List Node) (one : OpenNode) (kin new : Kin) (key :
       | inl p ↦ subst (λ (ks : List Sign). Contains ks k) (sym p.1) (own_sign n k p.0 x)
       | inr e ↦ elim (Contains-push_cases nodes one.node n on) [
         | inl was ↦ subst (λ (ks : List Sign). Contains ks k) (sym e) (of.each n k was x)
-        | inr is ↦ subst (λ (z : Node). Contains (signs_in new z) k) is (subst (λ (ks : List Sign). Contains ks k) (sym at_own) (own_sign n k is x))
+        | inr is ↦ subst (λ (z : Node). Contains (signs_listed new z) k) is (subst (λ (ks : List Sign). Contains ks k) (sym at_own) (own_sign n k is x))
       ]
     ];
     every = λ n k on x. elim (Contains-push_cases nodes one.node n on) [
@@ -178,7 +178,7 @@ module _ (s : Shown) (nodes : List Node) (one : OpenNode) (kin new : Kin) (key :
     ];
   }
     where
-      at_own : signs_in new one.node ≡ signs one
+      at_own : signs_listed new one.node ≡ signs one
       at_own = ap (λ (o : Option (Vec Sign Global)). signs_under o) (subst (λ (z : Node). get node_cmp new.signs z ≡ Some v) keyed (put key ∙ ap (λ (o : Ordering). cond (is_eq o) (Some v) (get node_cmp kin.signs key)) (tied_itself node_total key))) ∙ own
 
 -- ---- the class of a goal
@@ -195,7 +195,7 @@ kin_then s goal P Q kin so of = record {
   };
 }
 
-module _ (s : Shown) (goal y : Node) (P : Node → Type 0) (kin new : Kin) (near : List Node) (of : IsKinOf s goal P kin) (taken : AreTaken (signs_in kin y) (signed_in kin) (signed_in new) [] near) where
+module _ (s : Shown) (goal y : Node) (P : Node → Type 0) (kin new : Kin) (near : List Node) (of : IsKinOf s goal P kin) (taken : AreTaken (signs_listed kin y) (signed_in kin) (signed_in new) [] near) where
   in_class : (n : Node) → Same s n goal → Contains of.nodes n
   in_class n h = ((of.same).each n).1 (same_turn s n goal h)
 
@@ -216,7 +216,7 @@ module _ (s : Shown) (goal y : Node) (P : Node → Type 0) (kin new : Kin) (near
       ]
 
 -- once what is taken is found, too, the class is told as before
-pub kin_taken : (s : Shown) (goal y : Node) (P Q : Node → Type 0) (kin new : Kin) (near : List Node) → IsKinOf s goal P kin → AreTaken (signs_in kin y) (signed_in kin) (signed_in new) [] near → new.signs ≡ kin.signs
+pub kin_taken : (s : Shown) (goal y : Node) (P Q : Node → Type 0) (kin new : Kin) (near : List Node) → IsKinOf s goal P kin → AreTaken (signs_listed kin y) (signed_in kin) (signed_in new) [] near → new.signs ≡ kin.signs
     → ((x : Node) → P x → Q x) → ((x : Node) → Contains near x → Q x) → IsKinOf s goal Q new
 kin_taken s goal y P Q kin new near of taken signs so now = record {
   nodes = of.nodes;

@@ -23,7 +23,7 @@ use Rattle.bor_records.proofs.OnLinks.Found.{here, none, cases}
 use Rattle.bor_records.proofs.OnLinks.Sames.{alias_turn}
 use Rattle.bor_desk.specs.declared.evidence.kin.Kin.{Kin}
 use Rattle.bor_desk.specs.declared.evidence.ways.Ways.{Ways}
-use Rattle.bor_desk.specs.Kin.{AreTaken, IsKinOf, signed_in, signs_in}
+use Rattle.bor_desk.specs.Kin.{AreTaken, IsKinOf, signed_in, signs_listed}
 use Rattle.bor_desk.specs.Ways.{IsAway, IsNearer, Followers, AreAdded, IsFirstAlias, AreAll, AreFoundFrom, AreKnown, AreOfClass, AreWaysTo}
 use Rattle.bor_desk.proofs.OnEvidence.Kin.{alias_taken, kin_taken, kin_then, taken_alias}
 use Rattle.bor_register.proofs.OnMemory.Lists.{get_next}
@@ -436,7 +436,7 @@ level_known s goal w level known is x on =
 
 -- one of a level leads to more
 pub found_kin : (s : Shown) (goal : Node) (level : List Node) (i : ℕ) (y : Node) (near : List Node) (kin new : Kin) (a b c : Followers) (f g : List Node) → slice_get level i ≡ Some y → AreOfClass s goal level a → new.signs ≡ kin.signs
-    → AreTaken (signs_in kin y) (signed_in kin) (signed_in new) [] near → AreAdded y near b c f g → AreFoundFrom s level i a b f × IsKinOf s goal (λ x. IsSome (b x)) kin
+    → AreTaken (signs_listed kin y) (signed_in kin) (signed_in new) [] near → AreAdded y near b c f g → AreFoundFrom s level i a b f × IsKinOf s goal (λ x. IsSome (b x)) kin
     → AreFoundFrom s level (i + 1) a c g × IsKinOf s goal (λ x. IsSome (c x)) new
 found_kin s goal level i y near kin new a b c f g is_y class signs taken added so_far = (
   found_more s level i y near a b c f g is_y (record { each = each; every = alias_taken s goal y (λ x. IsSome (b x)) kin new near so_far.1 taken here.0 }) so_far.0 added,

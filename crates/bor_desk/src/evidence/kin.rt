@@ -7,7 +7,7 @@ ghost use Rattle.bor_records.specs.Links.Signs.{sign_cmp};
 ghost use Rattle.bor_records.specs.Links.Values.{under};
 ghost use Rattle.bor_records.specs.Promises.{Kept, Promised};
 ghost use Rattle.bor_register.specs.Seen.{seen_at};
-ghost use Rattle.bor_desk.specs.Kin.{AreKin, AreTaken, IsKinOf, NoneFound, signed_in, signs_in};
+ghost use Rattle.bor_desk.specs.Kin.{AreKin, AreTaken, IsKinOf, NoneFound, signed_in, signs_listed};
 ghost use Rattle.bor_desk.specs.Operations.Outcomes.{Accounts, store_fault};
 
 use crate::operations::{Keep, StoreFault};
@@ -152,7 +152,7 @@ impl Kin {
     /// entities once: by one that was asked for before, none are taken.
     pub(crate) fn take_near(&mut self, alloc: Global, node: &Node) -> Result<Vec<Node>, AllocError>
         ensures same { self.new.signs ≡ self.old.signs }
-        ensures taken { IfOk result (λ near. AreTaken (signs_in self.old node.now)
+        ensures taken { IfOk result (λ near. AreTaken (signs_listed self.old node.now)
             (signed_in self.old) (signed_in self.new) [] near.items) }
     {
         match self.signs.get(node) {

@@ -25,7 +25,7 @@ use Rattle.bor_records.specs.Links.Candidates.{is_into, link_at, link_into, name
 use Rattle.bor_register.specs.declared.member.Member.{Member}
 use Rattle.bor_register.specs.Register.{IsOrdered}
 use Rattle.bor_register.specs.Rows.{visible}
-use Rattle.bor_register.specs.Memory.Indexed.{AllNoted, record_beside, signs_in, signs_of, subjects_in, subjects_of}
+use Rattle.bor_register.specs.Memory.Indexed.{AllNoted, record_beside, signs_stated, signs_of, subjects_in, subjects_of}
 use Rattle.bor_register.specs.Memory.Sighted.{as_row, identifiers_stated}
 use Rattle.bor_register.proofs.OnMemory.Rows.{seen-live}
 
@@ -109,7 +109,7 @@ module _ (viewer : List ℕ) (today : ℤ) (ms : List Member) (ordered : IsOrder
 
   -- ---- signs
 
-  entity_signs : (n : Node) (d : Details) (x : OpenNode) → node_with n d ≡ Some x → IsTrue (is_entity x.info) → signs_in n d ≡ signs x
+  entity_signs : (n : Node) (d : Details) (x : OpenNode) → node_with n d ≡ Some x → IsTrue (is_entity x.info) → signs_stated n d ≡ signs x
   entity_signs n (details.Entity kind name identifiers) x e entity = ap signs (same_Some _ x e)
   entity_signs n (details.Person kind name) x e entity =
       let no : false ≡ true = ap (λ (y : OpenNode). is_entity y.info) (same_Some _ x e) ∙ entity in absurd cc

@@ -50,13 +50,13 @@ abbrev pub subjects_of : List ℕ → Statement → List Node
 subjects_of agent s = subjects_in agent s s.details
 
 -- the signs of the entity that an agent's statement makes
-abbrev pub signs_in : Node → Details → List Sign
-signs_in n (details.Entity kind name identifiers) = by_record n ∷ map by_identifier identifiers
-signs_in n (details.Person kind name) = []
-signs_in n (details.Relationship subject party interests) = []
+abbrev pub signs_stated : Node → Details → List Sign
+signs_stated n (details.Entity kind name identifiers) = by_record n ∷ map by_identifier identifiers
+signs_stated n (details.Person kind name) = []
+signs_stated n (details.Relationship subject party interests) = []
 
 abbrev pub signs_of : List ℕ → Statement → List Sign
-signs_of agent s = signs_in (stated agent s) s.details
+signs_of agent s = signs_stated (stated agent s) s.details
 
 -- The record of each statement of the agent is added under the statement's keys, and what was there
 -- stays.
