@@ -17,7 +17,7 @@ cross_none s start count w closed = (
   closed,
   record {
     marks = grown_none (LeadsFrom s front) w.marks (λ n h. absurd (empty h.0 h.1));
-    found = lines_none (NamesFrom s front) count w.found.items (λ person name h. empty h.0 h.1);
+    found = lines_none (NamesFrom s front) count w.found.items (λ person info h. empty h.0 h.1);
   },
 )
   where
@@ -44,8 +44,8 @@ cross_more s start i count m a b c le lt at first then closed = let f = first cl
         (λ n. elim [ inl p ↦ (p.0, old p.0 p.1, p.2) | inr q ↦ (m, here g.marks.rest g.marks.begins, q) ])
         (λ n r. elim (split g.marks.rest g.marks.begins r.0 r.1) [ inl o ↦ inl (r.0, o, r.2) | inr e ↦ inr (subst (λ (x : Marked). LeadsByLink s x n) (sym e) r.2) ]);
     found = lines_more (NamesFrom s before) (Names s m) (NamesFrom s after) count a.found.items b.found.items c.found.items g.found h.found
-        (λ person name. elim [ inl p ↦ (p.0, old p.0 p.1, p.2) | inr q ↦ (m, here g.marks.rest g.marks.begins, q) ])
-        (λ person name r. elim (split g.marks.rest g.marks.begins r.0 r.1) [ inl o ↦ inl (r.0, o, r.2) | inr e ↦ inr (subst (λ (x : Marked). Names s x person name) (sym e) r.2) ]);
+        (λ person info. elim [ inl p ↦ (p.0, old p.0 p.1, p.2) | inr q ↦ (m, here g.marks.rest g.marks.begins, q) ])
+        (λ person info r. elim (split g.marks.rest g.marks.begins r.0 r.1) [ inl o ↦ inl (r.0, o, r.2) | inr e ↦ inr (subst (λ (x : Marked). Names s x person info) (sym e) r.2) ]);
   },
 )
   where

@@ -15,6 +15,7 @@ use Rattle.bor_records.specs.declared.links.node.Node.{Node}
 use Rattle.bor_records.specs.declared.links.node.NodeInfo.{NodeInfo}
 use Rattle.bor_records.specs.declared.links.node.NodeInfo.TheVariants as infos
 use Rattle.bor_records.specs.declared.links.node.Link.{Link}
+use Rattle.bor_records.specs.declared.links.node.PersonInfo.{PersonInfo}
 use Rattle.bor_records.specs.Links.Nodes.{link_record, link_cmp}
 use Rattle.bor_records.specs.Links.Shown.{Shown, IsPerson, info_of}
 use Rattle.bor_records.proofs.OnLinks.Exact.{parts, exact_link}
@@ -31,7 +32,7 @@ use Rattle.bor_chains.specs.Chains.{IsJoinedBy}
 use Rattle.bor_chains.specs.Evidence.{IsEvidence, IsLinkOf, IsNamedBy, IsOfEvidence, AreReadOff, AreEvidenced}
 use Rattle.bor_chains.specs.Trail.{DownAs, IsLeastDown, ReadsOff, TellsAs, IsAll}
 use Rattle.bor_chains.specs.Branches.{step_link, IsNeeded, IsPersonAt, IsLinkAt, ArePersonsFrom, AreLinksFrom}
-use Rattle.bor_chains.proofs.Joining.{one_name}
+use Rattle.bor_chains.proofs.Joining.{one_info}
 use Rattle.bor_chains.proofs.Needed.{needed_person, needed_below}
 use Rattle.bor_chains.proofs.OneEvidence.{evidence_is_one, read_off}
 use Rattle.bor_chains.proofs.OneWay.{first_of, evidence_link_is, one_way_on}
@@ -48,44 +49,44 @@ held s e m ls is l = by (subst (λ (k : Mark). DownAs s e m.node k ls) is l.down
     by d = record { chain = d.2; least = λ ks chain. l.least ks (subst (λ (k : Mark). DownAs s e m.node k ks) (sym is) (d.0, d.1, chain)) }
 
 -- the person's evidence is read off from its place
-record IsHeldAt (s : Shown) (e : Node) (w : Trail) (i : ℕ) (person : Node) (name : Option (List ℕ)) : Type 0 where
-  is_person : IsPerson s person name
+record IsHeldAt (s : Shown) (e : Node) (w : Trail) (i : ℕ) (person : Node) (info : PersonInfo) : Type 0 where
+  is_person : IsPerson s person info
   chain : List Link
   reads : ReadsOff w.steps.items i chain
   evidence : IsEvidence s person chain e
 
-held_at : (s : Shown) (e : Node) (w : Trail) → IsAll s e w → (i : ℕ) (step : Step) (name : Option (List ℕ)) → slice_get w.steps.items i ≡ Some (Some step) → step.info ≡ infos.Person name → IsHeldAt s e w i step.link.party name
-held_at s e w all i step name is info =
+held_at : (s : Shown) (e : Node) (w : Trail) → IsAll s e w → (i : ℕ) (step : Step) (info : PersonInfo) → slice_get w.steps.items i ≡ Some (Some step) → step.info ≡ infos.Person info → IsHeldAt s e w i step.link.party info
+held_at s e w all i step info is tells =
     let lt = slice_get_within w.steps.items i (Some step) is in
     let m = got_there w.marks i (omega (arith, lt, all.beside)) in at m.0 m.1 (m.0).mark refl (all.tells i m.0 step (m.1, is))
   where
-    at : (m : Marked) → slice_get w.marks i ≡ Some m → (mark : Mark) → m.mark ≡ mark → TellsAs s m.node m.mark step → IsHeldAt s e w i step.link.party name
+    at : (m : Marked) → slice_get w.marks i ≡ Some m → (mark : Mark) → m.mark ≡ mark → TellsAs s m.node m.mark step → IsHeldAt s e w i step.link.party info
     at m on mark q t = by mark q (subst (λ (k : Mark). TellsAs s m.node k step) q t)
       where
-        by : (k : Mark) → m.mark ≡ k → TellsAs s m.node k step → IsHeldAt s e w i step.link.party name
+        by : (k : Mark) → m.mark ≡ k → TellsAs s m.node k step → IsHeldAt s e w i step.link.party info
         by Target z h = absurd h
-        by Middle z h = let no : infos.Person name ≡ infos.Entity true = sym info ∙ h in absurd cc
+        by Middle z h = let no : infos.Person info ≡ infos.Entity true = sym tells ∙ h in absurd cc
         by Holder z h =
             let r = all.each i m on in
             record {
-              is_person = ap (λ (n : Node). info_of s n) (sym h.0) ∙ sym h.1 ∙ ap (λ (x : NodeInfo). Some x) info;
+              is_person = ap (λ (n : Node). info_of s n) (sym h.0) ∙ sym h.1 ∙ ap (λ (x : NodeInfo). Some x) tells;
               chain = r.0;
               reads = r.1;
               evidence = subst (λ (n : Node). IsEvidence s n r.0 e) h.0 (held s e m r.0 z r.2);
             }
 
 -- each person with evidence has a place from which it is read off
-record IsPlacedAt (s : Shown) (w : Trail) (person : Node) (name : Option (List ℕ)) (chain : List Link) : Type 0 where
+record IsPlacedAt (s : Shown) (w : Trail) (person : Node) (info : PersonInfo) (chain : List Link) : Type 0 where
   place : ℕ
   step : Step
   is : slice_get w.steps.items place ≡ Some (Some step)
-  info : step.info ≡ infos.Person name
+  tells : step.info ≡ infos.Person info
   party : person ≡ step.link.party
   reads : ReadsOff w.steps.items place chain
 
-placed : (s : Shown) (e : Node) (w : Trail) → IsAll s e w → (person : Node) (name : Option (List ℕ)) (chain : List Link) → IsPerson s person name → IsEvidence s person chain e → IsPlacedAt s w person name chain
-placed s e w all person name chain is_person evidence =
-    let g = got w.marks m (all.every m chain (name, is_person, evidence.chain)) in
+placed : (s : Shown) (e : Node) (w : Trail) → IsAll s e w → (person : Node) (info : PersonInfo) (chain : List Link) → IsPerson s person info → IsEvidence s person chain e → IsPlacedAt s w person info chain
+placed s e w all person info chain is_person evidence =
+    let g = got w.marks m (all.every m chain (info, is_person, evidence.chain)) in
     let r = all.each g.0 m g.1 in
     let same = evidence_is_one s person e r.0 chain (held s e m r.0 refl r.2) evidence in
     by chain evidence g.0 g.1 (subst (λ (ls : List Link). ReadsOff w.steps.items g.0 ls) same r.1)
@@ -93,12 +94,12 @@ placed s e w all person name chain is_person evidence =
     m : Marked
     m = record { node = person; mark = Holder }
 
-    by : (ls : List Link) → IsEvidence s person ls e → (i : ℕ) → slice_get w.marks i ≡ Some m → ReadsOff w.steps.items i ls → IsPlacedAt s w person name ls
+    by : (ls : List Link) → IsEvidence s person ls e → (i : ℕ) → slice_get w.marks i ≡ Some m → ReadsOff w.steps.items i ls → IsPlacedAt s w person info ls
     by [] h i on reads = absurd h.chain
     by (l ∷ ls) h i on reads =
         let step = reads.0 in
         let t = all.tells i m step (on, reads.1) in
-        record { place = i; step = step; is = reads.1; info = same_Some step.info (infos.Person name) (t.1 ∙ is_person); party = t.0; reads = reads }
+        record { place = i; step = step; is = reads.1; tells = same_Some step.info (infos.Person info) (t.1 ∙ is_person); party = t.0; reads = reads }
 
 -- ---- links of places
 
@@ -131,8 +132,8 @@ link_told s e w all i x n at =
     let m = got_there w.marks i (omega (arith, lt, all.beside)) in
     let r = all.each i m.0 m.1 in by r.0 r.1
   where
-    h : IsHeldAt s e w n.place n.step.link.party n.name
-    h = held_at s e w all n.place n.step n.name (down_is w.steps.items n.place n.step n.is).0 n.person
+    h : IsHeldAt s e w n.place n.step.link.party n.info
+    h = held_at s e w all n.place n.step n.info (down_is w.steps.items n.place n.step n.is).0 n.person
 
     by : (ls : List Link) → ReadsOff w.steps.items i ls → IsOfEvidence s e x
     by [] reads = absurd (let no : None ≡ Some at.step = same_Some None (Some at.step) (sym reads ∙ at.is) in cc)
@@ -141,7 +142,7 @@ link_told s e w all i x n at =
         let same = one_reading w.steps.items n.place (n.links ++ l ∷ ls) h.chain whole h.reads in
         record {
           person = n.step.link.party;
-          name = n.name;
+          info = n.info;
           chain = n.links ++ l ∷ ls;
           is_person = h.is_person;
           evidence = subst (λ (ks : List Link). IsEvidence s n.step.link.party ks e) (sym same) h.evidence;
@@ -162,14 +163,14 @@ links_read steps links all i (l ∷ k ∷ ls) r n x is = elim is [
 
 link_found : (s : Shown) (e : Node) (w : Trail) (links : List EvidenceLink) → IsAll s e w → AreLinksFrom w.steps.items 0 links → (x : EvidenceLink) → IsOfEvidence s e x → Contains links x
 link_found s e w links all a x h =
-    let p = placed s e w all h.person h.name h.chain h.is_person h.evidence in by p h.chain h.is_link p.reads
+    let p = placed s e w all h.person h.info h.chain h.is_person h.evidence in by p h.chain h.is_link p.reads
   where
-    by : (p : IsPlacedAt s w h.person h.name h.chain) (ls : List Link) → IsLinkOf ls x → ReadsOff w.steps.items p.place ls → Contains links x
+    by : (p : IsPlacedAt s w h.person h.info h.chain) (ls : List Link) → IsLinkOf ls x → ReadsOff w.steps.items p.place ls → Contains links x
     by p [] is reads = absurd is
     by p (l ∷ ls) is reads =
         let d = is_down w.steps.items p.place reads.0 reads.1 reads.2 in
-        let info = ap (λ (y : Step). y.info) (one_step w.steps.items p.place reads.0 p.step reads.1 p.is) ∙ p.info in
-        links_read w.steps.items links a p.place (l ∷ ls) reads (needed_person w.steps.items p.place reads.0 h.name d info) x is
+        let tells = ap (λ (y : Step). y.info) (one_step w.steps.items p.place reads.0 p.step reads.1 p.is) ∙ p.tells in
+        links_read w.steps.items links a p.place (l ∷ ls) reads (needed_person w.steps.items p.place reads.0 h.info d tells) x is
 
 -- ---- in order, each once
 
@@ -203,43 +204,43 @@ pub record AreOnceInOrder {X : Type 0} (cmp : X → X → Ordering) (same_one : 
 -- a person of a place is named by the tree
 named : (s : Shown) (e : Node) (w : Trail) (tree : List EvidenceLink) → IsAll s e w → ((x : EvidenceLink) → IsOfEvidence s e x → Contains tree x) → (i : ℕ) (person : EvidencePerson) → IsPersonAt w.steps.items i person → IsNamedBy s e tree person
 named s e w tree all has i person at = record {
-  is_person = subst (λ (n : Node). IsPerson s n person.name) (sym at.node) h.is_person;
+  is_person = subst (λ (n : Node). IsPerson s n person.info) (sym at.node) h.is_person;
   chain = h.chain;
   read = read h.chain h.evidence h.reads;
   evidence = subst (λ (n : Node). IsEvidence s n h.chain e) (sym at.node) h.evidence;
   long = at.count h.chain h.reads;
 }
   where
-    h : IsHeldAt s e w i at.step.link.party person.name
-    h = held_at s e w all i at.step person.name at.is at.info
+    h : IsHeldAt s e w i at.step.link.party person.info
+    h = held_at s e w all i at.step person.info at.is at.info
 
     read : (ls : List Link) → IsEvidence s at.step.link.party ls e → ReadsOff w.steps.items i ls → AreReadOff tree person.first ls
     read [] evidence reads = absurd evidence.chain
     read (l ∷ ls) evidence reads =
         let first : l ≡ person.first = sym reads.3 ∙ ap (λ (y : Step). y.link) (one_step w.steps.items i reads.0 at.step reads.1 at.is) ∙ sym at.first in
         subst (λ (k : Link). AreReadOff tree k (l ∷ ls)) first
-        (read_off tree l ls (λ x is. has x (record { person = at.step.link.party; name = person.name; chain = l ∷ ls; is_person = h.is_person; evidence = evidence; is_link = is })))
+        (read_off tree l ls (λ x is. has x (record { person = at.step.link.party; info = person.info; chain = l ∷ ls; is_person = h.is_person; evidence = evidence; is_link = is })))
 
 -- each person with a chain has a place
-person_found : (s : Shown) (e : Node) (w : Trail) (found : List EvidencePerson) → IsAll s e w → ArePersonsFrom w.steps.items 0 found → (person : Node) (name : Option (List ℕ)) (ls : List Link) → IsJoinedBy s e person name ls
+person_found : (s : Shown) (e : Node) (w : Trail) (found : List EvidencePerson) → IsAll s e w → ArePersonsFrom w.steps.items 0 found → (person : Node) (info : PersonInfo) (ls : List Link) → IsJoinedBy s e person info ls
     → (p : EvidencePerson) × Contains found p × (p.node ≡ person)
-person_found s e w found all a person name ls joined =
-    let g = got w.marks m (all.every m ls (name, joined.0, joined.1)) in
+person_found s e w found all a person info ls joined =
+    let g = got w.marks m (all.every m ls (info, joined.0, joined.1)) in
     let r = all.each g.0 m g.1 in at r.0 (held s e m r.0 refl r.2)
   where
     m : Marked
     m = record { node = person; mark = Holder }
 
     at : (chain : List Link) → IsEvidence s person chain e → (p : EvidencePerson) × Contains found p × (p.node ≡ person)
-    at chain evidence = let p = placed s e w all person name chain joined.0 evidence in by p chain evidence p.reads
+    at chain evidence = let p = placed s e w all person info chain joined.0 evidence in by p chain evidence p.reads
       where
-        by : (p : IsPlacedAt s w person name chain) (ks : List Link) → IsEvidence s person ks e → ReadsOff w.steps.items p.place ks → (q : EvidencePerson) × Contains found q × (q.node ≡ person)
+        by : (p : IsPlacedAt s w person info chain) (ks : List Link) → IsEvidence s person ks e → ReadsOff w.steps.items p.place ks → (q : EvidencePerson) × Contains found q × (q.node ≡ person)
         by p [] h reads = absurd h.chain
         by p (k ∷ ks) h reads =
             let same = one_step w.steps.items p.place reads.0 p.step reads.1 p.is in
-            let info = ap (λ (y : Step). y.info) same ∙ p.info in
-            let needed = needed_person w.steps.items p.place reads.0 name (is_down w.steps.items p.place reads.0 reads.1 reads.2) info in
-            let q = a.every p.place p.step name (omega arith) needed p.is p.info in
+            let tells = ap (λ (y : Step). y.info) same ∙ p.tells in
+            let needed = needed_person w.steps.items p.place reads.0 info (is_down w.steps.items p.place reads.0 reads.1 reads.2) tells in
+            let q = a.every p.place p.step info (omega arith) needed p.is p.tells in
             (q.0, q.1, (q.2).node ∙ ap (λ (y : Step). y.link.party) (one_step w.steps.items p.place (q.2).step p.step (q.2).is p.is) ∙ sym p.party)
 
 pub all_evidenced : (s : Shown) (e : Node) (w : Trail) (persons ps qs : List EvidencePerson) (links xs ys : List EvidenceLink) → IsAll s e w → ArePersonsFrom w.steps.items 0 persons → AreLinksFrom w.steps.items 0 links
@@ -262,10 +263,10 @@ all_evidenced s e w persons ps qs links xs ys all a b p x =
         let f = a.each q (Contains-permutation ps persons q (IsPermutation-sym persons ps p.same) (Contains-from_dedup same_evidence ps q h)) in
         named s e w (dedup same_in_tree xs) all (λ y is. (tree y).1 is) f.0 q f.1
 
-    every : (person : Node) (name : Option (List ℕ)) (ls : List Link) → IsJoinedBy s e person name ls → (q : EvidencePerson) × Contains (dedup same_evidence ps) q × (q.node ≡ person) × (q.name ≡ name)
-    every person name ls joined =
-        let f = person_found s e w persons all a person name ls joined in
+    every : (person : Node) (info : PersonInfo) (ls : List Link) → IsJoinedBy s e person info ls → (q : EvidencePerson) × Contains (dedup same_evidence ps) q × (q.node ≡ person) × (q.info ≡ info)
+    every person info ls joined =
+        let f = person_found s e w persons all a person info ls joined in
         let q = Any-dedup evidence_equiv ps f.0 (Contains-permutation persons ps f.0 p.same f.1) in
         let on : Contains (dedup same_evidence ps) q.1 = (q.0, q.2, q.3) in
         let same : (q.1).node ≡ person = sym (same_node_is (f.0).node (q.1).node q.4) ∙ f.2 in
-        (q.1, on, same, one_name s (q.1).node person (q.1).name name same (told q.1 on).is_person joined.0)
+        (q.1, on, same, one_info s (q.1).node person (q.1).info info same (told q.1 on).is_person joined.0)

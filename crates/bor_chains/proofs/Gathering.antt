@@ -5,6 +5,7 @@ use Rattle.std.proofs.lemmas.Option.{same_Some, slice_get_within, slice_get-get_
 use Rattle.std.proofs.lemmas.List.Elements.{Contains-append_left, Contains-push, Contains-push_cases}
 use Rattle.bor_records.specs.declared.links.node.NodeInfo.{NodeInfo}
 use Rattle.bor_records.specs.declared.links.node.NodeInfo.TheVariants as infos
+use Rattle.bor_records.specs.declared.links.node.PersonInfo.{PersonInfo}
 use Rattle.bor_records.proofs.OnLinks.Found.{none}
 use Rattle.bor_chains.specs.declared.tree.EvidenceLink.{EvidenceLink}
 use Rattle.bor_chains.specs.declared.tree.EvidencePerson.{EvidencePerson}
@@ -55,7 +56,7 @@ at_least n i le = grind arith
 pub persons_from_end : (steps : List (Option Step)) (persons : List EvidencePerson) → persons ≡ [] → ArePersonsFrom steps (length steps) persons
 persons_from_end steps persons e = record {
   each = λ p h. absurd (none p (subst (λ (ps : List EvidencePerson). Contains ps p) e h));
-  every = λ i step name le n is info. absurd (let lt = slice_get_within steps i (Some step) is in omega arith);
+  every = λ i step info le n is tells. absurd (let lt = slice_get_within steps i (Some step) is in omega arith);
 }
 
 pub links_from_end : (steps : List (Option Step)) (links : List EvidenceLink) → links ≡ [] → AreLinksFrom steps (length steps) links
@@ -67,21 +68,21 @@ links_from_end steps links e = record {
 -- ---- a place more
 
 -- nobody is at the place who is needed
-persons_same : (steps : List (Option Step)) (n : ℕ) (persons : List EvidencePerson) → ((step : Step) (name : Option (List ℕ)) → IsNeeded steps n → slice_get steps n ≡ Some (Some step) → step.info ≡ infos.Person name → ⊥)
+persons_same : (steps : List (Option Step)) (n : ℕ) (persons : List EvidencePerson) → ((step : Step) (info : PersonInfo) → IsNeeded steps n → slice_get steps n ≡ Some (Some step) → step.info ≡ infos.Person info → ⊥)
     → ArePersonsFrom steps (n + 1) persons → ArePersonsFrom steps n persons
 persons_same steps n persons nobody a = record {
   each = a.each;
-  every = λ i step name le h is info. elim (at_least n i le) [
-    | inl past ↦ a.every i step name past h is info
-    | inr now ↦ absurd (nobody step name (subst (λ (j : ℕ). IsNeeded steps j) now h) (ap (λ (j : ℕ). slice_get steps j) (sym now) ∙ is) info)
+  every = λ i step info le h is tells. elim (at_least n i le) [
+    | inl past ↦ a.every i step info past h is tells
+    | inr now ↦ absurd (nobody step info (subst (λ (j : ℕ). IsNeeded steps j) now h) (ap (λ (j : ℕ). slice_get steps j) (sym now) ∙ is) tells)
   ];
 }
 
 persons_push : (steps : List (Option Step)) (n : ℕ) (persons : List EvidencePerson) (person : EvidencePerson) → IsPersonAt steps n person → ArePersonsFrom steps (n + 1) persons → ArePersonsFrom steps n (persons ++ person ∷ [])
 persons_push steps n persons person at a = record {
   each = λ p h. elim (Contains-push_cases persons person p h) [ inl was ↦ a.each p was | inr new ↦ (n, subst (λ (q : EvidencePerson). IsPersonAt steps n q) new at) ];
-  every = λ i step name le h is info. elim (at_least n i le) [
-    | inl past ↦ let m = a.every i step name past h is info in (m.0, Contains-append_left persons (person ∷ []) m.0 m.1, m.2)
+  every = λ i step info le h is tells. elim (at_least n i le) [
+    | inl past ↦ let m = a.every i step info past h is tells in (m.0, Contains-append_left persons (person ∷ []) m.0 m.1, m.2)
     | inr now ↦ (person, Contains-push persons person, subst (λ (j : ℕ). IsPersonAt steps j person) (sym now) at)
   ];
 }
@@ -90,19 +91,19 @@ pub persons_more : (steps : List (Option Step)) (n count : ℕ) (b : Bool) (o : 
     → ArePersonsFrom steps (n + 1) persons → ArePersonsFrom steps n more
 persons_more steps n count b o persons more is counted needed pushed a = subst (λ (ps : List EvidencePerson). ArePersonsFrom steps n ps) (sym pushed) (by b o is needed)
   where
-    nobody : ((step : Step) (name : Option (List ℕ)) → IsNeeded steps n → slice_get steps n ≡ Some (Some step) → step.info ≡ infos.Person name → ⊥) → ArePersonsFrom steps n (persons ++ [])
+    nobody : ((step : Step) (info : PersonInfo) → IsNeeded steps n → slice_get steps n ≡ Some (Some step) → step.info ≡ infos.Person info → ⊥) → ArePersonsFrom steps n (persons ++ [])
     nobody never = subst (λ (ps : List EvidencePerson). ArePersonsFrom steps n ps) (sym (append-nil persons)) (persons_same steps n persons never a)
 
     one : (step : Step) (info : NodeInfo) → step.info ≡ info → slice_get steps n ≡ Some (Some step) → ArePersonsFrom steps n (persons ++ persons_by info step.link count)
-    one step (infos.Entity legal) e at = nobody (λ x name h there person.
+    one step (infos.Entity legal) e at = nobody (λ x info h there person.
         let same = one_step steps n step x at there in
-        let no : infos.Entity legal ≡ infos.Person name = sym e ∙ ap (λ (y : Step). y.info) same ∙ person in cc)
-    one step (infos.Person name) e at = persons_push steps n persons (record { node = step.link.party; name = name; first = step.link; links = count })
+        let no : infos.Entity legal ≡ infos.Person info = sym e ∙ ap (λ (y : Step). y.info) same ∙ person in cc)
+    one step (infos.Person info) e at = persons_push steps n persons (record { node = step.link.party; info = info; first = step.link; links = count })
         (record { step = step; is = at; info = e; node = refl; first = refl; count = counted }) a
 
     by : (t : Bool) (p : Option Step) → slice_get steps n ≡ Some p → (IsNeeded steps n → t ≡ true) → ArePersonsFrom steps n (persons ++ persons_at t p count)
-    by false p at is = nobody (λ x name h there person. let no : false ≡ true = is h in cc)
-    by true None at is = nobody (λ x name h there person. let no : None ≡ Some x = same_Some None (Some x) (sym at ∙ there) in cc)
+    by false p at is = nobody (λ x info h there person. let no : false ≡ true = is h in cc)
+    by true None at is = nobody (λ x info h there person. let no : None ≡ Some x = same_Some None (Some x) (sym at ∙ there) in cc)
     by true (Some step) at is = one step step.info refl at
 
 links_same : (steps : List (Option Step)) (n : ℕ) (links : List EvidenceLink) → ((step : Step) → IsNeeded steps n → slice_get steps n ≡ Some (Some step) → ⊥) → AreLinksFrom steps (n + 1) links → AreLinksFrom steps n links

@@ -6,6 +6,7 @@ use Rattle.std.proofs.lemmas.Option.{same_Some}
 use Rattle.bor_records.specs.declared.links.node.NodeInfo.{NodeInfo}
 use Rattle.bor_records.specs.declared.links.node.NodeInfo.TheVariants as infos
 use Rattle.bor_records.specs.declared.links.node.Link.{Link}
+use Rattle.bor_records.specs.declared.links.node.PersonInfo.{PersonInfo}
 use Rattle.bor_records.specs.Links.Shown.{is_entity}
 use Rattle.bor_chains.specs.declared.trail.Step.{Step}
 use Rattle.bor_chains.specs.Branches.{step_down, LeadsDown, IsNeeded, AreNeeded}
@@ -14,14 +15,14 @@ use Rattle.bor_chains.proofs.Trails.{got_is}
 
 -- ---- one place
 
-pub needed_person : (steps : List (Option Step)) (i : ℕ) (step : Step) (name : Option (List ℕ)) → step_down steps i ≡ Some step → step.info ≡ infos.Person name → IsNeeded steps i
-needed_person steps i step name d info = record { place = i; step = step; name = name; is = d; person = info; links = []; leads = refl }
+pub needed_person : (steps : List (Option Step)) (i : ℕ) (step : Step) (info : PersonInfo) → step_down steps i ≡ Some step → step.info ≡ infos.Person info → IsNeeded steps i
+needed_person steps i step info d tells = record { place = i; step = step; info = info; is = d; person = tells; links = []; leads = refl }
 
 pub needed_below : (steps : List (Option Step)) (i : ℕ) (step : Step) → IsNeeded steps i → step_down steps i ≡ Some step → IsNeeded steps step.below
 needed_below steps i step n d = record {
   place = n.place;
   step = n.step;
-  name = n.name;
+  info = n.info;
   is = n.is;
   person = n.person;
   links = n.links ++ step.link ∷ [];
@@ -31,9 +32,9 @@ needed_below steps i step n d = record {
 -- a person's step
 record IsPersonStep (steps : List (Option Step)) (i : ℕ) : Type 0 where
   step : Step
-  name : Option (List ℕ)
+  info : PersonInfo
   is : step_down steps i ≡ Some step
-  person : step.info ≡ infos.Person name
+  person : step.info ≡ infos.Person info
 
 -- a needed place above
 record IsAbove (steps : List (Option Step)) (i : ℕ) : Type 0 where
@@ -47,11 +48,11 @@ needed_cases : (steps : List (Option Step)) (i : ℕ) → IsNeeded steps i → I
 needed_cases steps i n = by n.links n.leads
   where
     by : (ls : List Link) → LeadsDown steps n.place ls i → IsPersonStep steps i ⊎ IsAbove steps i
-    by [] h = inl (record { step = n.step; name = n.name; is = ap (λ (j : ℕ). step_down steps j) (sym h) ∙ n.is; person = n.person })
+    by [] h = inl (record { step = n.step; info = n.info; is = ap (λ (j : ℕ). step_down steps j) (sym h) ∙ n.is; person = n.person })
     by (l ∷ ls) h = let r = leads_last steps n.place l ls i h in inr (record {
       place = r.place;
       step = r.step;
-      needed = record { place = n.place; step = n.step; name = n.name; is = n.is; person = n.person; links = r.links; leads = r.leads };
+      needed = record { place = n.place; step = n.step; info = n.info; is = n.is; person = n.person; links = r.links; leads = r.leads };
       is = r.is;
       below = r.below;
     })
@@ -149,7 +150,7 @@ needed_yes steps n step v d by a = needed_more steps n v w (set_long (set v n tr
 
     person : (i : NodeInfo) → step.info ≡ i → is_entity i ≡ false → IsNeeded steps n
     person (infos.Entity legal) e h = let no : true ≡ false = h in absurd cc
-    person (infos.Person name) e h = needed_person steps n step name d e
+    person (infos.Person info) e h = needed_person steps n step info d e
 
     needed : IsNeeded steps n
     needed = elim by [ inl p ↦ person step.info refl p | inr q ↦ a.only n q ]

@@ -277,7 +277,7 @@ module _ (s t : Shown) (no_less : ShowsNoLess s t) where
       let j = a.each x on in
       let c = (j.1).some in
       let k = chain_kept x.node e c.0 c.1 in
-      let m = b.every x.node x.name k.0 (info_same x.node ∙ j.0, k.1) in
+      let m = b.every x.node x.info k.0 (info_same x.node ∙ j.0, k.1) in
       let few = ((b.each m.0 m.1).1).none_fewer k.0 (subst (λ (n : Node). IsChain t n k.0 e) (sym m.2) k.1) in
       (m.0, m.1, m.2, m.3, let long = k.2 in let was = c.2 in omega arith)
 

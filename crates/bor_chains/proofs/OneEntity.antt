@@ -51,7 +51,7 @@ module _ (s : Shown) where
   of_evidence_to : (e f : Node) (x : EvidenceLink) → Same s e f → IsOfEvidence s e x → IsOfEvidence s f x
   of_evidence_to e f x same h = record {
     person = h.person;
-    name = h.name;
+    info = h.info;
     chain = h.chain;
     is_person = h.is_person;
     evidence = evidence_to h.person e f h.chain same h.evidence;
@@ -62,12 +62,12 @@ pub same_entities_have_one_report : SameEntitiesHaveOneReport
 same_entities_have_one_report = record {
   report = λ s e f lines same a. record {
     each = λ line on. let j = a.each line on in (j.0, least_to s e f line.node line.links same j.1);
-    every = λ person name ls joined. a.every person name ls (joined.0, chain_back s person e f ls same joined.1);
+    every = λ person info ls joined. a.every person info ls (joined.0, chain_back s person e f ls same joined.1);
     sorted = a.sorted;
   };
   evidence = λ s e f tree same a. record {
     each = λ person on. named_to s e f tree.links person same (a.each person on);
-    every = λ person name ls joined. a.every person name ls (joined.0, chain_back s person e f ls same joined.1);
+    every = λ person info ls joined. a.every person info ls (joined.0, chain_back s person e f ls same joined.1);
     sorted = a.sorted;
     links = λ x. (
       (λ on. of_evidence_to s e f x same ((a.links x).0 on)),

@@ -1,5 +1,5 @@
 -- One report of two entities that share an identifier, and another one of a node that isn't the same.
-use Rattle.std.proofs.Common.{◌≡◌, ◌≤◌, true, false, Option, None, ℕ, List, [], ◌∷◌, Contains, length, codes, arith, refl, sym, ap, ◌∙◌, subst, inl, inr}
+use Rattle.std.proofs.Common.{◌≡◌, ◌≤◌, true, false, List, [], ◌∷◌, Contains, length, codes, arith, refl, sym, ap, ◌∙◌, subst, inl, inr}
 use Rattle.std.specs.List.Sorted.{IsStrictlySortedBy}
 use Rattle.std.proofs.lemmas.Option.{same_Some}
 use Rattle.bor_terms.proofs.Texts.{is_same-of}
@@ -7,6 +7,7 @@ use Rattle.bor_records.specs.declared.links.node.Node.{Node}
 use Rattle.bor_records.specs.declared.links.node.NodeInfo.TheVariants.{Person}
 use Rattle.bor_records.specs.declared.links.node.OpenNode.{OpenNode}
 use Rattle.bor_records.specs.declared.links.node.Link.{Link}
+use Rattle.bor_records.specs.declared.links.node.PersonInfo.{PersonInfo}
 use Rattle.bor_records.specs.Links.Shown.{Shown, IsPerson, are_alike}
 use Rattle.bor_records.specs.Links.Aliases.{Same}
 use Rattle.bor_records.proofs.OnLinks.Examples.{entity, registered}
@@ -14,7 +15,7 @@ use Rattle.bor_records.proofs.OnLinks.Found.{none, here, cases}
 use Rattle.bor_records.proofs.OnLinks.Sames.{same_turn}
 use Rattle.bor_chains.specs.declared.line.PersonLine.{PersonLine}
 use Rattle.bor_chains.specs.Chains.{IsChain, IsJoinedBy, IsLeast, AreJoined}
-use Rattle.bor_chains.proofs.Examples.{a2, e1, p1, person, link, beside_target}
+use Rattle.bor_chains.proofs.Examples.{a2, e1, p1, unnamed, person, link, beside_target}
 use Rattle.bor_chains.proofs.OneEntity.{same_entities_have_one_report}
 use Rattle.bor_chains.proofs.Reach.{chain_starts, chain_listed}
 
@@ -23,7 +24,7 @@ abbrev held : Link
 held = link p1 a2 false
 
 abbrev line : PersonLine
-line = record { node = p1; name = None; links = 1 }
+line = record { node = p1; info = unnamed; links = 1 }
 
 directly : IsChain beside_target p1 (held ∷ []) a2
 directly = (here held [], refl, refl, ([], refl))
@@ -43,7 +44,7 @@ at_least (l ∷ ls) h = omega arith
 
 -- what is said of a person of that report
 abbrev IsSaid : PersonLine → Type 0
-IsSaid x = IsPerson beside_target x.node x.name × IsLeast beside_target a2 x.node x.links
+IsSaid x = IsPerson beside_target x.node x.info × IsLeast beside_target a2 x.node x.links
 
 of_a2 : AreJoined beside_target a2 (line ∷ [])
 unfolding IsStrictlySortedBy
@@ -55,14 +56,14 @@ of_a2 = record { each = each; every = every; sorted = (tt, tt) }
       | inr past ↦ absurd (none x past)
     ]
 
-    no_name : (name : Option (List ℕ)) → IsPerson beside_target p1 name → None ≡ name
-    no_name name h = let same : Person None ≡ Person name = same_Some (Person None) (Person name) h in cc
+    no_info : (info : PersonInfo) → IsPerson beside_target p1 info → unnamed ≡ info
+    no_info info h = let same : Person unnamed ≡ Person info = same_Some (Person unnamed) (Person info) h in cc
 
-    every : (person : Node) (name : Option (List ℕ)) (ls : List Link) → IsJoinedBy beside_target a2 person name ls → (x : PersonLine) × Contains (line ∷ []) x × (x.node ≡ person) × (x.name ≡ name)
-    every person name [] joined = absurd joined.1
-    every person name (l ∷ ls) joined =
+    every : (person : Node) (info : PersonInfo) (ls : List Link) → IsJoinedBy beside_target a2 person info ls → (x : PersonLine) × Contains (line ∷ []) x × (x.node ≡ person) × (x.info ≡ info)
+    every person info [] joined = absurd joined.1
+    every person info (l ∷ ls) joined =
         let is = begins person l ls a2 joined.1 in
-        (line, here line [], sym is, no_name name (subst (λ (n : Node). IsPerson beside_target n name) is joined.0))
+        (line, here line [], sym is, no_info info (subst (λ (n : Node). IsPerson beside_target n info) is joined.0))
 
 -- .. so it is the report of e1 too, by the alias
 alias : Same beside_target a2 e1

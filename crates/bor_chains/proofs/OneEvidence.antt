@@ -1,11 +1,12 @@
 -- Evidence is determined, is read off its tree, and names the persons joined.
-use Rattle.std.proofs.Common.{◌≡◌, ◌≤◌, inl, inr, ℕ, Option, Some, None, List, [], ◌∷◌, map, Contains, length, refl, sym, ap, ◌∙◌, subst}
+use Rattle.std.proofs.Common.{◌≡◌, ◌≤◌, inl, inr, ℕ, Some, None, List, [], ◌∷◌, map, Contains, length, refl, sym, ap, ◌∙◌, subst}
 use Rattle.std.specs.List.{AllByRecursion}
 use Rattle.std.specs.List.Sorted.{IsStrictlySortedBy}
 use Rattle.std.specs.declared.cmp.Ordering.TheVariants.{Less}
 use Rattle.std.proofs.lemmas.Option.{same_Some}
 use Rattle.bor_records.specs.declared.links.node.Node.{Node}
 use Rattle.bor_records.specs.declared.links.node.Link.{Link}
+use Rattle.bor_records.specs.declared.links.node.PersonInfo.{PersonInfo}
 use Rattle.bor_records.specs.Links.Shown.{Shown, IsPerson}
 use Rattle.bor_records.proofs.OnLinks.Found.{Contains-map, Contains-from_map}
 use Rattle.bor_chains.specs.declared.line.PersonLine.{PersonLine}
@@ -61,18 +62,18 @@ evidence_is_read_off s e tree person ls a on read =
 
 -- ---- one tree
 
-person_is : (x y : EvidencePerson) → x.node ≡ y.node → x.name ≡ y.name → x.first ≡ y.first → x.links ≡ y.links → x ≡ y
+person_is : (x y : EvidencePerson) → x.node ≡ y.node → x.info ≡ y.info → x.first ≡ y.first → x.links ≡ y.links → x ≡ y
 person_is x y p q r t =
-    ap (λ (n : Node). let z : EvidencePerson = record { node = n; name = x.name; first = x.first; links = x.links } in z) p
-    ∙ ap (λ (n : Option (List ℕ)). let z : EvidencePerson = record { node = y.node; name = n; first = x.first; links = x.links } in z) q
-    ∙ ap (λ (l : Link). let z : EvidencePerson = record { node = y.node; name = y.name; first = l; links = x.links } in z) r
-    ∙ ap (λ (n : ℕ). let z : EvidencePerson = record { node = y.node; name = y.name; first = y.first; links = n } in z) t
+    ap (λ (n : Node). let z : EvidencePerson = record { node = n; info = x.info; first = x.first; links = x.links } in z) p
+    ∙ ap (λ (n : PersonInfo). let z : EvidencePerson = record { node = y.node; info = n; first = x.first; links = x.links } in z) q
+    ∙ ap (λ (l : Link). let z : EvidencePerson = record { node = y.node; info = y.info; first = l; links = x.links } in z) r
+    ∙ ap (λ (n : ℕ). let z : EvidencePerson = record { node = y.node; info = y.info; first = y.first; links = n } in z) t
 
 -- a person of one tree is one of the other
 listed : (s : Shown) (e : Node) (xs ys : Evidence) → AreEvidenced s e xs → AreEvidenced s e ys → (x : EvidencePerson) → Contains xs.persons x → Contains ys.persons x
 listed s e xs ys a b x h =
     let j = a.each x h in
-    let m = b.every x.node x.name j.chain (j.is_person, (j.evidence).chain) in
+    let m = b.every x.node x.info j.chain (j.is_person, (j.evidence).chain) in
     let k = b.each m.0 m.1 in
     let same = evidence_is_one s x.node e k.chain j.chain (subst (λ (n : Node). IsEvidence s n k.chain e) m.2 k.evidence) j.evidence in
     let first = read_first ys.links (m.0).first k.chain k.read ∙ ap (λ (ls : List Link). first_of ls) same ∙ sym (read_first xs.links x.first j.chain j.read) in
@@ -102,12 +103,12 @@ still_sorted (x ∷ xs) h = (all_less x xs h.0, still_sorted xs h.1)
 
 pub evidence_names_the_joined : EvidenceNamesTheJoined
 evidence_names_the_joined s e tree a = record {
-  each = λ line h. let m = Contains-from_map without_chain tree.persons line h in subst (λ (l : PersonLine). IsPerson s l.node l.name × IsLeast s e l.node l.links) m.2 (each m.0 m.1);
-  every = λ person name ls joined. let m = a.every person name ls joined in (without_chain m.0, Contains-map without_chain tree.persons m.0 m.1, m.2, m.3);
+  each = λ line h. let m = Contains-from_map without_chain tree.persons line h in subst (λ (l : PersonLine). IsPerson s l.node l.info × IsLeast s e l.node l.links) m.2 (each m.0 m.1);
+  every = λ person info ls joined. let m = a.every person info ls joined in (without_chain m.0, Contains-map without_chain tree.persons m.0 m.1, m.2, m.3);
   sorted = still_sorted tree.persons a.sorted;
 }
   where
-    each : (p : EvidencePerson) → Contains tree.persons p → IsPerson s p.node p.name × IsLeast s e p.node p.links
+    each : (p : EvidencePerson) → Contains tree.persons p → IsPerson s p.node p.info × IsLeast s e p.node p.links
     each p h = let j = a.each p h in (
       j.is_person,
       record {

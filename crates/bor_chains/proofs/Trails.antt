@@ -7,6 +7,7 @@ use Rattle.bor_records.specs.declared.links.node.Node.{Node}
 use Rattle.bor_records.specs.declared.links.node.NodeInfo.{NodeInfo}
 use Rattle.bor_records.specs.declared.links.node.NodeInfo.TheVariants as infos
 use Rattle.bor_records.specs.declared.links.node.Link.{Link}
+use Rattle.bor_records.specs.declared.links.node.PersonInfo.{PersonInfo}
 use Rattle.bor_records.specs.Links.Shown.{Shown, IsLegalEntity, info_of}
 use Rattle.bor_records.proofs.OnLinks.Found.{none}
 use Rattle.bor_records.proofs.OnLinks.Sames.{same_turn}
@@ -125,20 +126,20 @@ follows_given s c info marked P a b told into from back all h = elim h [
     }
 
 -- the party is a person
-pub follows_person : (s : Shown) (c : Crossing) (name : Option (List ℕ)) (a b : Trail) → Some (infos.Person name) ≡ info_of s c.link.party
-    → GivesUnlessThere (record { node = c.link.party; mark = Holder }) (λ n. n ≡ record { node = c.link.party; mark = Holder }) (Some (step_by c (infos.Person name))) a b → Follows s c a b
-follows_person s c name a b told g = follows_given s c (infos.Person name) marked (λ n. n ≡ marked) a b told into (λ m. from m m.mark refl)
+pub follows_person : (s : Shown) (c : Crossing) (info : PersonInfo) (a b : Trail) → Some (infos.Person info) ≡ info_of s c.link.party
+    → GivesUnlessThere (record { node = c.link.party; mark = Holder }) (λ n. n ≡ record { node = c.link.party; mark = Holder }) (Some (step_by c (infos.Person info))) a b → Follows s c a b
+follows_person s c info a b told g = follows_given s c (infos.Person info) marked (λ n. n ≡ marked) a b told into (λ m. from m m.mark refl)
     (λ m e on. subst (λ (x : Marked). Contains a.marks x) e on) (λ on m e. subst (λ (x : Marked). Contains a.marks x) (sym e) on) g
   where
     marked : Marked
     marked = record { node = c.link.party; mark = Holder }
 
     into : (m : Marked) → m ≡ marked → LeadsTo s c.link m
-    into m e = subst (λ (x : Marked). LeadsTo s c.link x) (sym e) (name, refl, sym told)
+    into m e = subst (λ (x : Marked). LeadsTo s c.link x) (sym e) (info, refl, sym told)
 
     from : (m : Marked) (mark : Mark) → m.mark ≡ mark → LeadsAs s c.link m.node mark → m ≡ marked
     from m Target is h = absurd h
-    from m Middle is h = let no : Some (infos.Person name) ≡ Some (infos.Entity true) = told ∙ h.0 in absurd cc
+    from m Middle is h = let no : Some (infos.Person info) ≡ Some (infos.Entity true) = told ∙ h.0 in absurd cc
     from m Holder is h = marked_is m marked h.1 is
 
 -- the party is a legal entity
@@ -167,7 +168,7 @@ follows_class s c a b told whole g = follows_given s c (infos.Entity true) marke
     all on m h = subst (λ (x : Marked). Contains a.marks x) (sym (in_middle m h.1)) (whole c.link.party m.node h.0 on)
 
 -- what is neither, or isn't open, leads to nothing
-pub follows_nothing : (s : Shown) (c : Crossing) (a : Trail) → (IsLegalEntity s c.link.party → ⊥) → ((name : Option (List ℕ)) → Some (infos.Person name) ≡ info_of s c.link.party → ⊥) → Follows s c a a
+pub follows_nothing : (s : Shown) (c : Crossing) (a : Trail) → (IsLegalEntity s c.link.party → ⊥) → ((info : PersonInfo) → Some (infos.Person info) ≡ info_of s c.link.party → ⊥) → Follows s c a a
 follows_nothing s c a no_entity no_person = follows_none s c a (λ m l. absurd (by m.node m.mark l))
   where
     by : (n : Node) (mark : Mark) → LeadsAs s c.link n mark → ⊥

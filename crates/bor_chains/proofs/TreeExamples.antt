@@ -1,5 +1,5 @@
 -- Evidence, tried: two persons behind one entity, and a ladder with a person on each step.
-use Rattle.std.proofs.Common.{◌≡◌, ◌||◌, Bool, true, false, not, Option, Some, None, List, [], ◌∷◌, Contains, ℕ, codes, length, refl, sym, ap, ◌∙◌, subst, inl, inr, arith}
+use Rattle.std.proofs.Common.{◌≡◌, ◌||◌, Bool, true, false, not, Some, None, List, [], ◌∷◌, Contains, ℕ, codes, length, refl, sym, ap, ◌∙◌, subst, inl, inr, arith}
 use Rattle.std.specs.List.{list_all, AllByRecursion}
 use Rattle.std.specs.List.Sorted.{IsStrictlySortedBy}
 use Rattle.std.specs.Ordering.{is_eq}
@@ -9,6 +9,7 @@ use Rattle.bor_records.specs.declared.links.node.Node.{Node}
 use Rattle.bor_records.specs.declared.links.node.NodeInfo.TheVariants.{Entity, Person}
 use Rattle.bor_records.specs.declared.links.node.OpenNode.{OpenNode}
 use Rattle.bor_records.specs.declared.links.node.Link.{Link}
+use Rattle.bor_records.specs.declared.links.node.PersonInfo.{PersonInfo}
 use Rattle.bor_records.specs.Links.Nodes.{same_node, link_cmp}
 use Rattle.bor_records.specs.Links.Orders.{node_equiv}
 use Rattle.bor_records.specs.Links.Shown.{Shown, IsPerson, are_alike}
@@ -23,7 +24,7 @@ use Rattle.bor_chains.specs.declared.tree.EvidencePerson.{EvidencePerson}
 use Rattle.bor_chains.specs.Lines.{evidence_cmp, tree_cmp}
 use Rattle.bor_chains.specs.Chains.{IsChain}
 use Rattle.bor_chains.specs.Evidence.{IsNotAfter, IsEvidence, IsLinkOf, AreReadOff, IsOfEvidence, AreEvidenced}
-use Rattle.bor_chains.proofs.Examples.{e1, a1, a2, p1, person, link, all_of, not_a1_e1}
+use Rattle.bor_chains.proofs.Examples.{e1, a1, a2, p1, unnamed, person, link, all_of, not_a1_e1}
 use Rattle.bor_chains.proofs.Least.{itself, shorter}
 use Rattle.bor_chains.proofs.OneEvidence.{evidence_is_determined}
 use Rattle.bor_chains.proofs.OneWay.{one_way_on}
@@ -109,7 +110,7 @@ has_links tree first (l ∷ k ∷ ls) h x is = elim is [
 
 -- the person's chain is read off
 pub record IsReadFrom (s : Shown) (e : Node) (tree : List EvidenceLink) (p : EvidencePerson) : Type 0 where
-  pub is_person : IsPerson s p.node p.name
+  pub is_person : IsPerson s p.node p.info
   pub chain : List Link
   pub is_chain : IsChain s p.node chain e
   pub read : AreReadOff tree p.first chain
@@ -124,26 +125,26 @@ pub record IsOnChain (s : Shown) (e : Node) (persons : List EvidencePerson) (x :
   pub is_link : IsLinkOf chain x
 
 plain_tree : (s : Shown) (e : Node) (tree : Evidence) → IsPlain s e → ((p : EvidencePerson) → Contains tree.persons p → IsReadFrom s e tree.links p)
-    → ((l : Link) (name : Option (List ℕ)) → Contains s.links l → IsPerson s l.party name → (p : EvidencePerson) × Contains tree.persons p × (p.node ≡ l.party) × (p.name ≡ name))
+    → ((l : Link) (info : PersonInfo) → Contains s.links l → IsPerson s l.party info → (p : EvidencePerson) × Contains tree.persons p × (p.node ≡ l.party) × (p.info ≡ info))
     → ((x : EvidenceLink) → Contains tree.links x → IsOnChain s e tree.persons x) → IsStrictlySortedBy evidence_cmp tree.persons → IsStrictlySortedBy tree_cmp tree.links → AreEvidenced s e tree
 plain_tree s e tree way each every on sorted links_sorted = record {
   each = λ p h. let r = each p h in record { is_person = r.is_person; chain = r.chain; read = r.read; evidence = only_evidence s e way p.node r.chain r.is_chain; long = r.long };
-  every = λ person name ls joined. met person name ls joined.0 joined.1;
+  every = λ person info ls joined. met person info ls joined.0 joined.1;
   sorted = sorted;
   links = λ x. (of x, back x);
   links_sorted = links_sorted;
 }
   where
-    met : (n : Node) (name : Option (List ℕ)) (ls : List Link) → IsPerson s n name → IsChain s n ls e → (p : EvidencePerson) × Contains tree.persons p × (p.node ≡ n) × (p.name ≡ name)
-    met n name [] is h = absurd h
-    met n name (l ∷ ls) is h =
+    met : (n : Node) (info : PersonInfo) (ls : List Link) → IsPerson s n info → IsChain s n ls e → (p : EvidencePerson) × Contains tree.persons p × (p.node ≡ n) × (p.info ≡ info)
+    met n info [] is h = absurd h
+    met n info (l ∷ ls) is h =
         let starts = chain_starts s n l ls e h in
-        let m = every l name (chain_listed s n l ls e h) (subst (λ (x : Node). IsPerson s x name) (sym starts) is) in (m.0, m.1, m.2 ∙ starts, m.3)
+        let m = every l info (chain_listed s n l ls e h) (subst (λ (x : Node). IsPerson s x info) (sym starts) is) in (m.0, m.1, m.2 ∙ starts, m.3)
 
     of : (x : EvidenceLink) → Contains tree.links x → IsOfEvidence s e x
     of x h = let o = on x h in record {
       person = (o.person).node;
-      name = (o.person).name;
+      info = (o.person).info;
       chain = o.chain;
       is_person = (each o.person o.listed).is_person;
       evidence = only_evidence s e way (o.person).node o.chain o.is_chain;
@@ -152,7 +153,7 @@ plain_tree s e tree way each every on sorted links_sorted = record {
 
     back : (x : EvidenceLink) → IsOfEvidence s e x → Contains tree.links x
     back x h =
-        let m = met h.person h.name h.chain h.is_person (h.evidence).chain in
+        let m = met h.person h.info h.chain h.is_person (h.evidence).chain in
         let r = each m.0 m.1 in
         let same = only_chain s e way h.person h.chain r.chain (h.evidence).chain (subst (λ (n : Node). IsChain s n r.chain e) m.2 r.is_chain) in
         has_links tree.links (m.0).first r.chain r.read x (subst (λ (ls : List Link). IsLinkOf ls x) same h.is_link)
@@ -169,7 +170,7 @@ shared = record {
 }
 
 abbrev named_by : Node → Link → ℕ → EvidencePerson
-named_by n first links = record { node = n; name = None; first = first; links = links }
+named_by n first links = record { node = n; info = unnamed; first = first; links = links }
 
 abbrev last : Link → EvidenceLink
 last l = record { link = l; next = None }
@@ -189,11 +190,11 @@ of_all {X} P (y ∷ ys) h x on = elim (cases y ys x on) [ inl e ↦ subst P e h.
 
 -- who holds a link is named, or is no person
 abbrev IsTold : Shown → List EvidencePerson → Link → Type 0
-IsTold s persons l = (name : Option (List ℕ)) → IsPerson s l.party name → (p : EvidencePerson) × Contains persons p × (p.node ≡ l.party) × (p.name ≡ name)
+IsTold s persons l = (info : PersonInfo) → IsPerson s l.party info → (p : EvidencePerson) × Contains persons p × (p.node ≡ l.party) × (p.info ≡ info)
 
 pub shared_is : AreEvidenced shared e1 shared_tree
 unfolding IsStrictlySortedBy
-shared_is = plain_tree shared e1 shared_tree (plain shared e1 refl refl refl) each (λ l name on is. told l on name is) on_chain (((refl, tt), (tt, tt))) ((refl, (refl, tt)), ((refl, tt), (tt, tt)))
+shared_is = plain_tree shared e1 shared_tree (plain shared e1 refl refl refl) each (λ l info on is. told l on info is) on_chain (((refl, tt), (tt, tt))) ((refl, (refl, tt)), ((refl, tt), (tt, tt)))
   where
     down : IsChain shared a1 (link a1 e1 false ∷ []) e1
     down = ((1, omega arith, refl), refl, refl, ([], refl))
@@ -221,10 +222,10 @@ shared_is = plain_tree shared e1 shared_tree (plain shared e1 refl refl refl) ea
 
     told : (l : Link) → Contains shared.links l → IsTold shared shared_tree.persons l
     told l h = of_all (λ (k : Link). IsTold shared shared_tree.persons k) shared.links (
-      (λ name is. (named_by p2 (link p2 a1 true) 2, (1, omega arith, refl), refl, (let same : Some (Person None) ≡ Some (Person name) = is in cc))),
+      (λ info is. (named_by p2 (link p2 a1 true) 2, (1, omega arith, refl), refl, (let same : Some (Person unnamed) ≡ Some (Person info) = is in cc))),
       (
-        (λ name is. absurd (let wrong : Some (Entity true) ≡ Some (Person name) = is in cc)),
-        ((λ name is. (named_by p1 (link p1 a1 true) 2, (0, omega arith, refl), refl, (let same : Some (Person None) ≡ Some (Person name) = is in cc))), tt),
+        (λ info is. absurd (let wrong : Some (Entity true) ≡ Some (Person info) = is in cc)),
+        ((λ info is. (named_by p1 (link p1 a1 true) 2, (0, omega arith, refl), refl, (let same : Some (Person unnamed) ≡ Some (Person info) = is in cc))), tt),
       ),
     ) l h
 
@@ -267,7 +268,7 @@ ladder_tree = record {
 
 pub ladder_is : AreEvidenced ladder e1 ladder_tree
 unfolding IsStrictlySortedBy
-ladder_is = plain_tree ladder e1 ladder_tree (plain ladder e1 refl refl refl) each (λ l name on is. told l on name is) on_chain ((refl, (refl, tt)), ((refl, tt), (tt, tt)))
+ladder_is = plain_tree ladder e1 ladder_tree (plain ladder e1 refl refl refl) each (λ l info on is. told l on info is) on_chain ((refl, (refl, tt)), ((refl, tt), (tt, tt)))
     ((refl, (refl, (refl, (refl, tt)))), ((refl, (refl, (refl, tt))), ((refl, (refl, tt)), ((refl, tt), (tt, tt)))))
   where
     from_a1 : IsChain ladder a1 (link a1 e1 false ∷ []) e1
@@ -302,14 +303,14 @@ ladder_is = plain_tree ladder e1 ladder_tree (plain ladder e1 refl refl refl) ea
 
     told : (l : Link) → Contains ladder.links l → IsTold ladder ladder_tree.persons l
     told l h = of_all (λ (k : Link). IsTold ladder ladder_tree.persons k) ladder.links (
-      (λ name is. (named_by p1 (link p1 e1 false) 1, (0, omega arith, refl), refl, (let same : Some (Person None) ≡ Some (Person name) = is in cc))),
+      (λ info is. (named_by p1 (link p1 e1 false) 1, (0, omega arith, refl), refl, (let same : Some (Person unnamed) ≡ Some (Person info) = is in cc))),
       (
-        (λ name is. absurd (let wrong : Some (Entity true) ≡ Some (Person name) = is in cc)),
+        (λ info is. absurd (let wrong : Some (Entity true) ≡ Some (Person info) = is in cc)),
         (
-          (λ name is. (named_by p2 (link p2 a1 true) 2, (1, omega arith, refl), refl, (let same : Some (Person None) ≡ Some (Person name) = is in cc))),
+          (λ info is. (named_by p2 (link p2 a1 true) 2, (1, omega arith, refl), refl, (let same : Some (Person unnamed) ≡ Some (Person info) = is in cc))),
           (
-            (λ name is. absurd (let wrong : Some (Entity true) ≡ Some (Person name) = is in cc)),
-            ((λ name is. (named_by p3 (link p3 a2 true) 3, (2, omega arith, refl), refl, (let same : Some (Person None) ≡ Some (Person name) = is in cc))), tt),
+            (λ info is. absurd (let wrong : Some (Entity true) ≡ Some (Person info) = is in cc)),
+            ((λ info is. (named_by p3 (link p3 a2 true) 3, (2, omega arith, refl), refl, (let same : Some (Person unnamed) ≡ Some (Person info) = is in cc))), tt),
           ),
         ),
       ),
@@ -344,7 +345,7 @@ around = record {
 
 -- each is evidence of what it stands in, and the link into e1 is not the last
 pub goes_on : IsOfEvidence around e1 (then past (link e1 a1 true))
-goes_on = record { person = p1; name = None; chain = whole; is_person = refl; evidence = record { chain = is_chain; least = least }; is_link = inl refl }
+goes_on = record { person = p1; info = unnamed; chain = whole; is_person = refl; evidence = record { chain = is_chain; least = least }; is_link = inl refl }
   where
     whole : List Link
     whole = past ∷ link e1 a1 true ∷ link a1 e1 false ∷ []

@@ -6,6 +6,7 @@ use Rattle.std.specs.List.{slice_get}
 use Rattle.bor_records.specs.declared.links.node.NodeInfo.{NodeInfo}
 use Rattle.bor_records.specs.declared.links.node.NodeInfo.TheVariants as infos
 use Rattle.bor_records.specs.declared.links.node.Link.{Link}
+use Rattle.bor_records.specs.declared.links.node.PersonInfo.{PersonInfo}
 use Rattle.bor_chains.specs.declared.tree.EvidenceLink.{EvidenceLink}
 use Rattle.bor_chains.specs.declared.tree.EvidencePerson.{EvidencePerson}
 use Rattle.bor_chains.specs.declared.trail.Step.{Step}
@@ -38,9 +39,9 @@ LeadsDown steps i (l ∷ ls) j =
 pub record IsNeeded (steps : List (Option Step)) (i : ℕ) : Type 0 where
   pub place : ℕ
   pub step : Step
-  pub name : Option (List ℕ)
+  pub info : PersonInfo
   pub is : step_down steps place ≡ Some step
-  pub person : step.info ≡ infos.Person name
+  pub person : step.info ≡ infos.Person info
   pub links : List Link
   pub leads : LeadsDown steps place links i
 
@@ -64,8 +65,8 @@ pub record AreNeeded (steps : List (Option Step)) (n : ℕ) (needed : List Bool)
 -- the person to whom a step leads
 abbrev pub persons_by : NodeInfo → Link → ℕ → List EvidencePerson
 persons_by (infos.Entity legal) l count = []
-persons_by (infos.Person name) l count =
-    record { node = l.party; name = name; first = l; links = count } ∷ []
+persons_by (infos.Person info) l count =
+    record { node = l.party; info = info; first = l; links = count } ∷ []
 
 -- the persons and the links of evidence that a step makes, where it is needed
 abbrev pub persons_at : Bool → Option Step → ℕ → List EvidencePerson
@@ -83,7 +84,7 @@ links_at true (Some step) below =
 pub record IsPersonAt (steps : List (Option Step)) (i : ℕ) (person : EvidencePerson) : Type 0 where
   pub step : Step
   pub is : slice_get steps i ≡ Some (Some step)
-  pub info : step.info ≡ infos.Person person.name
+  pub info : step.info ≡ infos.Person person.info
   pub node : person.node ≡ step.link.party
   pub first : person.first ≡ step.link
   pub count : IsCount steps i person.links
@@ -100,8 +101,8 @@ pub record ArePersonsFrom (steps : List (Option Step)) (n : ℕ)
     (persons : List EvidencePerson) : Type 0 where
   pub each : (person : EvidencePerson) → Contains persons person
       → (i : ℕ) × IsPersonAt steps i person
-  pub every : (i : ℕ) (step : Step) (name : Option (List ℕ)) → n ≤ i → IsNeeded steps i
-      → slice_get steps i ≡ Some (Some step) → step.info ≡ infos.Person name
+  pub every : (i : ℕ) (step : Step) (info : PersonInfo) → n ≤ i → IsNeeded steps i
+      → slice_get steps i ≡ Some (Some step) → step.info ≡ infos.Person info
       → (person : EvidencePerson) × Contains persons person × IsPersonAt steps i person
 
 -- the links of these places

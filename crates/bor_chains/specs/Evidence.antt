@@ -1,5 +1,5 @@
 -- Why persons are named: of each the least of its chains, and these chains as a tree of links.
-use Rattle.std.specs.Prelude.{◌≡◌, ◌↔◌, ◌⊎◌, ℕ, List, [], ◌∷◌, IsTrue, Contains, Option, None, Some}
+use Rattle.std.specs.Prelude.{◌≡◌, ◌↔◌, ◌⊎◌, List, [], ◌∷◌, IsTrue, Contains, None, Some}
 use Rattle.std.specs.Prelude.{length}
 use Rattle.std.specs.Ordering.{nat_cmp, ordering_then, is_le}
 use Rattle.std.specs.declared.cmp.Ordering.{Ordering}
@@ -7,6 +7,7 @@ use Rattle.std.specs.Cmp.Lexicographic.{slice_cmp}
 use Rattle.std.specs.List.Sorted.{IsStrictlySortedBy}
 use Rattle.bor_records.specs.declared.links.node.Node.{Node}
 use Rattle.bor_records.specs.declared.links.node.Link.{Link}
+use Rattle.bor_records.specs.declared.links.node.PersonInfo.{PersonInfo}
 use Rattle.bor_records.specs.Links.Nodes.{link_cmp}
 use Rattle.bor_records.specs.Links.Shown.{Shown, IsPerson}
 use Rattle.bor_chains.specs.declared.line.PersonLine.{PersonLine}
@@ -49,7 +50,7 @@ AreReadOff tree first (l ∷ k ∷ ls) =
 -- from the person's first link on its evidence is read off, of so many links
 pub record IsNamedBy (s : Shown) (e : Node) (tree : List EvidenceLink)
     (person : EvidencePerson) : Type 0 where
-  pub is_person : IsPerson s person.node person.name
+  pub is_person : IsPerson s person.node person.info
   pub chain : List Link
   pub read : AreReadOff tree person.first chain
   pub evidence : IsEvidence s person.node chain e
@@ -58,25 +59,25 @@ pub record IsNamedBy (s : Shown) (e : Node) (tree : List EvidenceLink)
 -- a link of some person's evidence, with the one that follows it there
 pub record IsOfEvidence (s : Shown) (e : Node) (x : EvidenceLink) : Type 0 where
   pub person : Node
-  pub name : Option (List ℕ)
+  pub info : PersonInfo
   pub chain : List Link
-  pub is_person : IsPerson s person name
+  pub is_person : IsPerson s person info
   pub evidence : IsEvidence s person chain e
   pub is_link : IsLinkOf chain x
 
--- Exactly the persons with some chain, with their names and their evidence, each once, by agent,
--- declaration and record; and exactly the links of that evidence, each once, by the agent,
+-- Exactly the persons with some chain, with what is shown of them and their evidence, each once, by
+-- agent, declaration and record; and exactly the links of that evidence, each once, by the agent,
 -- declaration and record of its record.
 pub record AreEvidenced (s : Shown) (e : Node) (tree : Evidence) : Type 0 where
   pub each : (person : EvidencePerson) → Contains tree.persons person
       → IsNamedBy s e tree.links person
-  pub every : (person : Node) (name : Option (List ℕ)) (ls : List Link)
-      → IsJoinedBy s e person name ls
-      → (p : EvidencePerson) × Contains tree.persons p × (p.node ≡ person) × (p.name ≡ name)
+  pub every : (person : Node) (info : PersonInfo) (ls : List Link)
+      → IsJoinedBy s e person info ls
+      → (p : EvidencePerson) × Contains tree.persons p × (p.node ≡ person) × (p.info ≡ info)
   pub sorted : IsStrictlySortedBy evidence_cmp tree.persons
   pub links : (x : EvidenceLink) → Contains tree.links x ↔ IsOfEvidence s e x
   pub links_sorted : IsStrictlySortedBy tree_cmp tree.links
 
 -- the line of a report that shows no chain
 abbrev pub without_chain : EvidencePerson → PersonLine
-without_chain person = record { node = person.node; name = person.name; links = person.links }
+without_chain person = record { node = person.node; info = person.info; links = person.links }

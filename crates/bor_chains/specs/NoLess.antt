@@ -60,11 +60,11 @@ pub record ShowsNoLess (s t : Shown) : Type 0 where
   pub nodes : (n : Node) → listed_at t.nodes n ≡ listed_at s.nodes n
   pub links : (l : Link) → Contains s.links l → (k : Link) × Contains t.links k × IsNoLess l k
 
--- each person is in the second report too, by the same name, with as many links or fewer
+-- each person is in the second report too, shown alike, with as many links or fewer
 abbrev pub NamesNoFewer : List PersonLine → List PersonLine → Type 0
 NamesNoFewer lines more =
     (x : PersonLine) → Contains lines x → (y : PersonLine) × Contains more y
-    × (y.node ≡ x.node) × (y.name ≡ x.name) × (y.links ≤ x.links)
+    × (y.node ≡ x.node) × (y.info ≡ x.info) × (y.links ≤ x.links)
 
 -- ---- the law
 

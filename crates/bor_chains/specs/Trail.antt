@@ -7,6 +7,7 @@ use Rattle.bor_records.specs.declared.links.node.Node.{Node}
 use Rattle.bor_records.specs.declared.links.node.NodeInfo.{NodeInfo}
 use Rattle.bor_records.specs.declared.links.node.NodeInfo.TheVariants as infos
 use Rattle.bor_records.specs.declared.links.node.Link.{Link}
+use Rattle.bor_records.specs.declared.links.node.PersonInfo.{PersonInfo}
 use Rattle.bor_records.specs.Links.Shown.{Shown, IsLegalEntity, IsPerson, info_of}
 use Rattle.bor_records.specs.Links.Aliases.{Same}
 use Rattle.bor_records.specs.Links.Growth.{Grown}
@@ -25,7 +26,7 @@ use Rattle.bor_chains.specs.Evidence.{IsNotAfter}
 abbrev pub DownAs : Shown → Node → Node → Mark → List Link → Type 0
 DownAs s e n Target ls = Same s n e × (ls ≡ [])
 DownAs s e n Middle ls = (q : Node) × Same s n q × IsLegalEntity s q × IsChain s q ls e
-DownAs s e n Holder ls = (name : Option (List ℕ)) × IsPerson s n name × IsChain s n ls e
+DownAs s e n Holder ls = (info : PersonInfo) × IsPerson s n info × IsChain s n ls e
 
 abbrev pub Down : Shown → Node → Marked → List Link → Type 0
 Down s e m ls = DownAs s e m.node m.mark ls
@@ -39,7 +40,7 @@ pub record IsLeastDown (s : Shown) (e : Node) (m : Marked) (ls : List Link) : Ty
 abbrev pub LeadsAs : Shown → Link → Node → Mark → Type 0
 LeadsAs s l n Target = ⊥
 LeadsAs s l n Middle = IsLegalEntity s l.party × Same s l.party n
-LeadsAs s l n Holder = (name : Option (List ℕ)) × (n ≡ l.party) × IsPerson s l.party name
+LeadsAs s l n Holder = (info : PersonInfo) × (n ≡ l.party) × IsPerson s l.party info
 
 abbrev pub LeadsTo : Shown → Link → Marked → Type 0
 LeadsTo s l m = LeadsAs s l m.node m.mark

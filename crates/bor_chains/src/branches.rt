@@ -118,10 +118,10 @@ impl Branches {
         ensures links { OnOk result (self.new.links.items ≡ self.old.links.items) }
     {
         match info {
-            NodeInfo::Person { name } => {
+            NodeInfo::Person(info) => {
                 let person = EvidencePerson {
                     node: link.party.copy(alloc)?,
-                    name,
+                    info,
                     first: link.copy(alloc)?,
                     links,
                 };

@@ -50,7 +50,7 @@ pub fn evidence_of<S: LinkSource>(
     match source.node(target) {
         Err(fault) => return Err(ChainFault::Source(fault)),
         Ok(None) => return Err(ChainFault::NoEntity),
-        Ok(Some(NodeInfo::Person { .. })) => return Err(ChainFault::NoEntity),
+        Ok(Some(NodeInfo::Person(_))) => return Err(ChainFault::NoEntity),
         Ok(Some(NodeInfo::Entity { .. })) => {}
     }
     let trail = trail_from(alloc, source, target)?;

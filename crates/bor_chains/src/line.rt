@@ -4,8 +4,7 @@ ghost use Rattle.std.specs.Prelude.{◌≡◌, Some, refl};
 ghost use Rattle.std.specs.Cmp.{partial_equiv_from_equiv};
 ghost use Rattle.bor_chains.specs.Lines.{reading_cmp, same_line, line_cmp, line_equiv, line_po, line_total, line_ties};
 
-use bods_read::FreeText;
-use bor_records::links::Node;
+use bor_records::links::{Node, PersonInfo};
 use std::cmp::Ordering;
 
 /// A person of a report.
@@ -13,8 +12,8 @@ use std::cmp::Ordering;
 pub struct PersonLine {
     /// The record of the person.
     pub node: Node,
-    /// The name that is shown.
-    pub name: Option<FreeText>,
+    /// What is shown of the person.
+    pub info: PersonInfo,
     /// The least number of links of a chain from the person.
     pub links: u64,
 }

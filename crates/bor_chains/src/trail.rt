@@ -171,8 +171,8 @@ impl Trail {
         match source.node(&crossing.link.party) {
             Err(fault) => Err(WalkFault::Source(fault)),
             Ok(None) => Ok(()),
-            Ok(Some(NodeInfo::Person { name })) => {
-                self.mark_person(alloc, crossing, NodeInfo::Person { name })?;
+            Ok(Some(NodeInfo::Person(info))) => {
+                self.mark_person(alloc, crossing, NodeInfo::Person(info))?;
                 Ok(())
             }
             Ok(Some(NodeInfo::Entity { legal: false })) => Ok(()),

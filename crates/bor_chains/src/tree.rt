@@ -6,8 +6,7 @@ ghost use Rattle.bor_records.specs.Links.Nodes.{link_record};
 ghost use Rattle.bor_chains.specs.Lines.{reading_cmp, same_evidence, evidence_cmp, evidence_equiv, evidence_po, evidence_total, evidence_ties, same_in_tree, tree_cmp, tree_equiv, tree_po, tree_total};
 
 use crate::line::reading_cmp;
-use bods_read::FreeText;
-use bor_records::links::{Link, Node};
+use bor_records::links::{Link, Node, PersonInfo};
 use bor_terms::Listed;
 use std::cmp::Ordering;
 
@@ -27,8 +26,8 @@ pub struct Evidence {
 pub struct EvidencePerson {
     /// The record of the person.
     pub node: Node,
-    /// The name that is shown.
-    pub name: Option<FreeText>,
+    /// What is shown of the person.
+    pub info: PersonInfo,
     /// The first link of the person's chain: of the chains from the person that have the fewest
     /// links the least, link by link from the person's end on.
     pub first: Link,
