@@ -1,22 +1,10 @@
 //! How long a client is waited for.
 
-ghost use Rattle.std.specs.Prelude.{◌≡◌, ◌<◌, ◌≤◌};
+ghost use Rattle.std.specs.Prelude.{◌≡◌};
 ghost use Rattle.std.specs.Duration.{as_nanos};
 ghost use Rattle.bor_program.specs.Connections.Limits.{reply_floor, reply_nanos, request_nanos, rest_nanos};
 
 use std::time::Duration;
-
-/// The shorter of two times.
-pub(crate) fn shorter(one: Duration, other: Duration) -> Duration
-    ensures one { as_nanos one ≤ as_nanos other → result ≡ one }
-    ensures other { as_nanos other < as_nanos one → result ≡ other }
-{
-    if other.as_nanos() < one.as_nanos() {
-        other
-    } else {
-        one
-    }
-}
 
 /// The time that a client has for each phase.
 #[derive(Clone, Copy, PartialEq, Eq)]

@@ -10,13 +10,13 @@ ghost use Rattle.bor_program.specs.Connections.Times.{IsPatient};
 ghost use Rattle.bor_program.specs.Connections.Places.{Takes, is_ready, place_count, taken_in};
 ghost use Rattle.bor_program.specs.Connections.Watching.{AreTold, DoesUnwaiting, Waits, Watches};
 
-use crate::connections::limits::{Limits, shorter};
+use crate::connections::limits::Limits;
 use crate::connections::phase::{Phase, Step};
 use crate::connections::reading::Reading;
 use crate::connections::seats::Seats;
 use crate::connections::service::Service;
 use crate::connections::step::{gives_up, look, steps};
-use crate::connections::timing::Timing;
+use crate::connections::timing::{Timing, shorter};
 use crate::connections::watch::{PLACES, Places, Watch};
 use bor_desk::operations::Keep;
 use std::alloc::Global;

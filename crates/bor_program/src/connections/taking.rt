@@ -5,7 +5,8 @@ ghost use Rattle.std.specs.Duration.{as_nanos, max_nanos};
 ghost use Rattle.bor_program.specs.Connections.Limits.{IsBelowFloor};
 ghost use Rattle.bor_program.specs.Connections.Times.{IsSlow, IsSlowBehind, begun, taking_after};
 
-use crate::connections::limits::{Limits, shorter};
+use crate::connections::limits::Limits;
+use crate::connections::timing::shorter;
 use std::time::Duration;
 
 /// The times of the clock, each time that it was read since the reply was made.

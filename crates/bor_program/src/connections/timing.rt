@@ -1,6 +1,6 @@
-//! Since when a client is in its phase, and since when it is idle.
+//! Since when a client is in its phase, since when it is idle, and for how long it is waited for.
 
-ghost use Rattle.std.specs.Prelude.{◌≡◌, ◌≢◌, ◌||◌, None, Some, false, set, unwrap_or, MatchOption};
+ghost use Rattle.std.specs.Prelude.{◌≡◌, ◌≢◌, ◌<◌, ◌≤◌, ◌||◌, None, Some, false, set, unwrap_or, MatchOption};
 ghost use Rattle.std.specs.Duration.{as_nanos};
 ghost use Rattle.bor_program.specs.declared.connections.phase.Pace.TheVariants.{Blocked, Turned};
 ghost use Rattle.bor_program.specs.Connections.Places.{is_ready};
@@ -110,4 +110,16 @@ fn some_left(limit: Duration, since: Duration, now: Duration) -> Option<Duration
 {
     let left = limit.saturating_sub(now.saturating_sub(since));
     if left.is_zero() { None } else { Some(left) }
+}
+
+/// The shorter of two times.
+pub(crate) fn shorter(one: Duration, other: Duration) -> Duration
+    ensures one { as_nanos one ≤ as_nanos other → result ≡ one }
+    ensures other { as_nanos other < as_nanos one → result ≡ other }
+{
+    if other.as_nanos() < one.as_nanos() {
+        other
+    } else {
+        one
+    }
 }

@@ -27,7 +27,6 @@ mod reply;
 mod room;
 mod short;
 mod shown;
-mod status;
 
+pub use head::{desk_status, refusal_status};
 pub use reply::{RESERVED, UNAVAILABLE, is_long, render, render_refusal, render_short};
-pub use status::{desk_status, refusal_status};

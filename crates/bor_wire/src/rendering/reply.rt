@@ -6,9 +6,8 @@ ghost use Rattle.bor_wire.specs.Rendering.Limits.{reserved};
 ghost use Rattle.bor_wire.specs.Rendering.Replies.{refused, answered, wrong_method, bytes_of};
 
 use crate::rendering::body::body_of;
-use crate::rendering::head::{HEAD_ROOM, put_head_before};
+use crate::rendering::head::{HEAD_ROOM, desk_status, put_head_before, refusal_status};
 use crate::rendering::short::{put_body, put_wire_refusal};
-use crate::rendering::status::{desk_status, refusal_status};
 use bor_desk::DeskReply;
 use bor_http::incoming::{Path, Refusal};
 use std::alloc::{AllocError, Global};

@@ -5,8 +5,9 @@ ghost use Rattle.bor_wire.specs.Spelling.Spell.{SpellsAs, asked_view, spell};
 ghost use Rattle.bor_wire.specs.Spelling.Query.{pair_texts};
 ghost use Rattle.bor_wire.specs.Spelling.Steps.{FindsStated, enrolment_by_steps, identifier_by_steps, lodging_by_steps, node_by_steps, renewal_by_steps, request_by_steps, snapshot_by_steps};
 
-use crate::spelling::name::{agent_named, day_if_named, day_named, ident_named, text_named};
-use crate::spelling::query::{QueryPair, query_pairs};
+use crate::spelling::query::{
+    QueryPair, agent_named, day_if_named, day_named, ident_named, query_pairs, text_named,
+};
 use crate::spelling::target::{key_at, name_at, path_at};
 use crate::spelling::token::{new_token, token_at};
 use bods_read::Identifier;

@@ -13,7 +13,6 @@
 
 mod asking;
 pub mod laws;
-mod name;
 mod query;
 mod target;
 mod token;
