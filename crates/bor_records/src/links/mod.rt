@@ -22,6 +22,9 @@
 //! that stand for one entity, [`aliases`] those that are one step away, and [`identified`] the
 //! entities of an identifier.
 //!
+//! A map from a key to all that stand under it, as from a sign to its entities, has [`Values`]:
+//! [`put`] and [`note`] add to it, and [`under`] looks a key up.
+//!
 //! Left out: how links are followed, and who may see which rows.
 
 mod class;
