@@ -97,7 +97,7 @@ PLANTED = [
     ("required: [agent, published]", "required: [agent, drafts, published]"),
     ("refusal: {const: NoSuchAgent}", "refusal: {const: NoAgent}"),
     ("required: [agent, declaration, next, record, same]", "required: [agent, declaration, next, party, record, same]"),
-    ("required: [agent, declaration, first, links, name, record]", "required: [agent, declaration, first, last, links, name, record]"),
+    ("first, links, name, record]", "first, last, links, name, record]"),
     ("required: [date, entities, id, scheme]", "required: [date, entities, id, record, scheme]"),
     ("field: {enum: [scheme, id, date]}", "field: {enum: [scheme, date]}"),
     ("                    minItems: 1\n                    description: What the chains", "                    minItems: 2\n                    description: What the chains"),

@@ -12,10 +12,7 @@ STORE_FAULT = "@unavailable.reply"
 FILINGS = ("alder filings", '200 [{"due":"2024-02-01","filing":1,"key":"f1","state":"published"}]')
 SNAPSHOT, FILE = "alder snapshot alder c1", "alder file f1"
 CHAINS, EVIDENCE = "alder chains alder c1 e1", "alder evidence alder c1 e1"
-NAMED = (
-    '200 {"agent":"alder","date":"2024-02-01","declaration":"c1","persons":[{"agent":"alder",'
-    '"declaration":"c1","links":1,"name":"Ann Moss","record":"p1"}],"record":"e1"}'
-)
+NAMED = '200 persons p1:1"Ann Moss"'
 
 
 # ---- what stands in the tables

@@ -106,7 +106,7 @@ class Evidence:
             **named(target),
             "date": date,
             "links": [self.link_line(link, *tree[link]) for link in sorted(tree, key=lambda it: in_bytes(relationship(it)))],
-            "persons": [self.person_line(it, persons[it], nodes) for it in sorted(persons, key=in_bytes)],
+            "persons": [self.chain_line(it, persons[it], nodes) for it in sorted(persons, key=in_bytes)],
             "records": [self.record_line(it, rows) for it in self.met(persons, tree, target) if it in rows],
         }
 
@@ -116,9 +116,9 @@ class Evidence:
         below = named(relationship(below)) if below else None
         return {**named(relationship(link)), "next": below, "same": [named(node) for node in path]}
 
-    def person_line(self, person, chain, nodes):
+    def chain_line(self, person, chain, nodes):
         first = named(relationship(chain[0]))
-        return {**named(person), "first": first, "links": len(chain), "name": nodes[person].details["name"]}
+        return {**self.person_line(person, len(chain), nodes), "first": first}
 
     def record_line(self, node, rows):
         return {"agent": node[0], **self.shown(rows[node])}

@@ -603,8 +603,8 @@ class RecordsOfLinksAlone(Planted):
 class FirstIsLast(Planted):
     """A person's first link is the one at the entity."""
 
-    def person_line(self, person, chain, nodes):
-        return {**super().person_line(person, chain[::-1], nodes), "links": len(chain)}
+    def chain_line(self, person, chain, nodes):
+        return super().chain_line(person, chain[::-1], nodes)
 
 
 # ---- entities by an identifier

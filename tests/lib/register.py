@@ -320,15 +320,16 @@ class Register(Evidence):
             raise Refused("NoEntity")
         return nodes, links, same
 
+    def person_line(self, node, links, nodes):
+        """What both reports tell of a person."""
+        return {**named(node), "links": links, "name": nodes[node].details["name"]}
+
     def chains(self, viewer, agent, declaration, record, date=None):
         date = date or self.day
         target = (agent, declaration, record)
         nodes, links, same = self.graph_about(viewer, target, date)
         persons = self.joined(nodes, links, same, target)
-        lines = [
-            {**named(node), "links": count, "name": nodes[node].details["name"]}
-            for node, count in sorted(persons.items(), key=lambda pair: [part.encode() for part in pair[0]])
-        ]
+        lines = [self.person_line(node, persons[node], nodes) for node in sorted(persons, key=in_bytes)]
         return reply(200, told({**named(target), "date": date, "persons": lines}))
 
     def evidence(self, viewer, agent, declaration, record, date=None):

@@ -70,17 +70,23 @@ def refusal(found):
     return f'{{{told}"refusal":"{name}"}}'
 
 
-def person(word):
-    named, links = word.rsplit(":", 1)
+# Spaces, where the person's record stands, the links, and the name as a text of JSON.
+PERSON = re.compile(r' +([^ "]+):(\d+)("(?:[^"\\]|\\.)*")?')
+
+
+def person(found):
+    named, links, name = found[1], found[2], found[3] or "null"
     agent, declaration, record = named.split("/") if "/" in named else ("alder", "c1", named)
-    return f'{{"agent":"{agent}","declaration":"{declaration}","links":{links},"name":null,"record":"{record}"}}'
+    return f'{{"agent":"{agent}","declaration":"{declaration}","links":{links},"name":{name},"record":"{record}"}}'
 
 
 def persons(words, ask, today):
     _, wish, agent, declaration, record, *date = ask.split(" ")
     if wish != "chains":
         raise Unread("persons are told of chains alone")
-    listed = ",".join(person(word) for word in words.split())
+    if PERSON.sub("", words).strip():
+        raise Unread(f"no persons:{words}")
+    listed = ",".join(person(found) for found in PERSON.finditer(words))
     date = date[0] if date else today
     return (
         f'{{"agent":"{agent}","date":"{date}","declaration":"{declaration}",'
@@ -103,7 +109,7 @@ def body_of(words, ask, today):
     if words == "no persons":
         return persons("", ask, today).encode()
     if words.startswith("persons "):
-        return persons(words[8:], ask, today).encode()
+        return persons(words[7:], ask, today).encode()
     for form, spelled in FORMS:
         found = form.fullmatch(words)
         if found:
