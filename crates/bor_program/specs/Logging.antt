@@ -10,8 +10,8 @@ use Rattle.bor_register.specs.Register.{Register}
 use Rattle.bor_http.specs.declared.incoming.fault.Path.{Path}
 use Rattle.bor_http.specs.Incoming.Splitting.{before_byte, behind_byte}
 use Rattle.bor_http.specs.Incoming.Words.{path_word}
+use Rattle.bor_http.specs.Routes.Paths.{path_spelled}
 use Rattle.bor_http.specs.Routes.Routes.{route_line, route_at}
-use Rattle.bor_wire.specs.Spelling.Parts.{path_spelled}
 use Rattle.bor_wire.specs.Exchanges.{NamesWhoAsks}
 use Rattle.bor_wire.specs.Sent.{Sent, bytes_sent, status_sent}
 use Rattle.bor_program.specs.declared.log.Asked.{Asked}

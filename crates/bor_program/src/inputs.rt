@@ -9,12 +9,10 @@ ghost use Rattle.bor_http.specs.Incoming.Message.{request_limit};
 use crate::failure::Failure;
 use crate::host::{NamedFiles, Registers, Stage};
 use crate::status::Status;
+use bor_http::incoming::REQUEST_LIMIT;
 use bor_words::Source;
 use std::alloc::{AllocError, Global};
 use std::io::{self, ErrorKind, Read, Write};
-
-// The longest head of a request and the longest body: as much is read of a file.
-const REQUEST_LIMIT: u64 = 1_064_960;
 
 /// The inputs that were read of the files.
 #[derive(Drop)]
@@ -91,6 +89,6 @@ pub fn read_request<I: Read + Drop>(alloc: Global, input: I) -> io::Result<Vec<u
         IfOk result (λ read. read.items ≡ take request_limit bytes)) }
 {
     let mut bytes = Vec::new(alloc);
-    input.take(REQUEST_LIMIT).read_to_end(&mut bytes)?;
+    input.take(REQUEST_LIMIT as u64).read_to_end(&mut bytes)?;
     Ok(bytes)
 }

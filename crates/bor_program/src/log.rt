@@ -8,7 +8,6 @@
 //! No field of an [`Entry`] can hold a token, a key, a query or a body, and none of a [`Note`].
 
 ghost use Rattle.std.specs.Prelude.{◌≡◌, ◌↔◌, ◌+◌, ◌/◌, ◌%◌, ◌≤◌, pos, IfOk, IfSome, IsSome, length};
-ghost use Rattle.bor_wire.specs.Spelling.Parts.{path_spelled};
 ghost use Rattle.bor_wire.specs.Sent.{bytes_sent, status_sent};
 ghost use Rattle.bor_program.specs.Logging.{agent_shown, asked_at, asked_of, asked_path_word, asked_text, clock_text, entry_line, method_word, moment_text, numbers_text};
 ghost use Rattle.bor_program.specs.Streams.{AppendsPart};
@@ -140,16 +139,6 @@ fn seconds_now<R: Clock>(rt: &R) -> u64 {
 
 // ---- what was asked for
 
-// The path that bytes are.
-fn path_found(paths: &Paths, text: &[u8]) -> Option<Path>
-    ensures { result ≡ path_spelled text.now }
-{
-    match str::from_utf8(text) {
-        Ok(text) => paths.find(text),
-        Err(_) => None,
-    }
-}
-
 // The request of a path by a method.
 fn asked_at(path: Option<Path>, method: &[u8]) -> Asked
     ensures { result ≡ asked_at path method.now }
@@ -172,7 +161,7 @@ pub fn asked_by(paths: &Paths, input: &[u8]) -> Asked
     let (method, rest) = split_at_first(line, b' ');
     let (target, _) = split_at_first(rest, b' ');
     let (path, _) = split_at_first(target, b'?');
-    asked_at(path_found(paths, path), method)
+    asked_at(paths.find_bytes(path), method)
 }
 
 impl Asked {

@@ -1,13 +1,13 @@
 -- A message, the head that an input begins with, and what the fields of a head say.
-use Rattle.std.specs.Prelude.{◌≡◌, ◌≤◌, ℕ, ◌==◌, ◌&&◌, nat_lt, Bool, List, [], length, take, map}
-use Rattle.std.specs.Prelude.{find, count_by, Option, Some, None, if◌then◌else◌, nat_eq}
+use Rattle.std.specs.Prelude.{◌≡◌, ◌≤◌, ◌+◌, ℕ, ◌==◌, ◌&&◌, nat_lt, Bool, List, [], length, take}
+use Rattle.std.specs.Prelude.{map, find, count_by, Option, Some, None, if◌then◌else◌, nat_eq}
 use Rattle.std.specs.List.{list_all}
 use Rattle.std.specs.Option.{option_map}
 use Rattle.std.specs.Char.{to_ascii_lowercase, is_ascii_digit}
 use Rattle.std.specs.Cmp.Lexicographic.{pointwise}
 use Rattle.httparse.specs.Grammar.{RequestHead, ReadsRequest}
 use Rattle.httparse.specs.Spans.{name_and_value}
-use Rattle.bor_http.specs.Incoming.Head.{head_end, line_feeds, line_limit}
+use Rattle.bor_http.specs.Incoming.Head.{head_end, head_limit, line_feeds, line_limit}
 
 -- a field's name and its value
 abbrev pub FieldText : Type 0
@@ -76,4 +76,4 @@ body_limit = 1048576
 
 -- at most this many bytes are taken of a reader: those of a head and of a body
 abbrev pub request_limit : ℕ
-request_limit = 1064960
+request_limit = head_limit + body_limit

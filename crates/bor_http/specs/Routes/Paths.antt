@@ -1,9 +1,9 @@
 -- The path that a text is, by the segments between its slashes.
 use Rattle.std.specs.Prelude.{◌≡◌, ◌<◌, ◌==◌, ℕ, nat_lt, Bool, List, length, false, find, Option}
-use Rattle.std.specs.Prelude.{◌++◌, ◌||◌, codes, if◌then◌else◌}
+use Rattle.std.specs.Prelude.{None, ◌++◌, ◌||◌, codes, if◌then◌else◌}
 use Rattle.std.specs.List.{list_any, slice_split}
 use Rattle.std.specs.Option.{option_map}
-use Rattle.std.specs.Str.{bytes_eq}
+use Rattle.std.specs.Str.{bytes_eq, is_utf8}
 use Rattle.std.specs.Cmp.Lexicographic.{pointwise}
 use Rattle.bor_http.specs.declared.incoming.fault.Path.{Path}
 use Rattle.bor_http.specs.declared.incoming.fault.Path.TheVariants as paths
@@ -33,6 +33,10 @@ unfoldable pub path_of : List ℕ → Option Path
 path_of text =
     option_map (λ route. (route_line route).path)
     (find (λ route. is_written_as text (route_line route).path) every_route)
+
+-- the path that bytes are, where they are a text in UTF-8
+unfoldable pub path_spelled : List ℕ → Option Path
+path_spelled bytes = if is_utf8 bytes then path_of bytes else None
 
 -- ---- each path, as it is written
 

@@ -12,8 +12,8 @@ use crate::incoming::fault::Refusal;
 use crate::incoming::fields::has_name;
 use httparse::spans::HeaderSpan;
 
-// The most bytes of a body.
-const BODY_LIMIT: usize = 1_048_576;
+/// The most bytes of a body.
+pub(crate) const BODY_LIMIT: usize = 1_048_576;
 
 // The number that the digits give, up to one past the limit, if all are digits.
 fn decimal(bytes: &[u8]) -> Option<usize>

@@ -34,6 +34,6 @@ pub use counted::Counted;
 pub use fault::{Name, Path, Refusal, WireFault};
 pub use message::{MessageHead, RawRequest, message_in};
 pub use progress::Progress;
-pub use request::read_request;
+pub use request::{REQUEST_LIMIT, read_request};
 pub use sending::send;
 pub use split::split_at_first;

@@ -8,9 +8,14 @@ ghost use Rattle.bor_http.specs.Incoming.Reading.{FaultsTell, IsReadInPart, Says
 
 use crate::incoming::counted::Counted;
 use crate::incoming::fault::WireFault;
+use crate::incoming::lengths::BODY_LIMIT;
+use crate::incoming::message::HEAD_LIMIT;
 use crate::incoming::progress::Progress;
 use std::alloc::Global;
 use std::io::Read;
+
+/// The most bytes of a request: those of a head and of a body.
+pub const REQUEST_LIMIT: usize = HEAD_LIMIT + BODY_LIMIT;
 
 // The most bytes that are read at once.
 const PART: usize = 16_384;
@@ -59,8 +64,8 @@ fn read_more<R: Read>(
 ///
 /// In whatever pieces they come, what [`message_in`](crate::incoming::message_in) says of them holds
 /// of all that the reader would have given, and what stands behind the body has no part in it. At
-/// most 1,064,960 bytes are taken of the reader. Nothing more is asked of it once a read has given
-/// no byte.
+/// most [`REQUEST_LIMIT`] bytes are taken of the reader. Nothing more is asked of it once a read
+/// has given no byte.
 ///
 /// # Errors
 ///

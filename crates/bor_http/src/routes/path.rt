@@ -1,39 +1,13 @@
 //! The paths that there are, and which of them a text is.
-ghost use Rattle.std.specs.Prelude.{◌≡◌, ◌↔◌, Some, IfOk};
+ghost use Rattle.std.specs.Prelude.{◌≡◌, ◌↔◌, Some, IfOk, OnOk};
 ghost use Rattle.bor_http.specs.declared.incoming.fault.Path.{Path};
-ghost use Rattle.bor_http.specs.Routes.Paths.{IsPath, path_of};
-ghost use Rattle.bor_http.specs.Routes.Routers.{path_in, router};
+ghost use Rattle.bor_http.specs.Routes.Paths.{IsPath, path_of, path_spelled};
+ghost use Rattle.bor_http.specs.Routes.Routers.{path_in, router, with_path};
 
 use crate::incoming::Path;
+use crate::routes::route::ROUTES;
 use matchit::{InsertError, Router};
 use std::alloc::{AllocError, Global};
-
-// All paths.
-const PATHS: [Path; 12] = [
-    Path::Filing,
-    Path::Filings,
-    Path::File,
-    Path::Published,
-    Path::Snapshot,
-    Path::Chains,
-    Path::Evidence,
-    Path::Entities,
-    Path::Day,
-    Path::Agents,
-    Path::Agent,
-    Path::Register,
-];
-
-// The router that has all paths.
-fn router_of_paths(alloc: Global) -> Result<Router<Path>, InsertError>
-    ensures { IfOk result (λ paths. paths ≡ router) }
-{
-    let mut router = Router::new(alloc);
-    for path in PATHS {
-        router.insert(path.as_str(), path)?;
-    }
-    Ok(router)
-}
 
 // The path of a router that a text matches.
 fn matched(router: &Router<Path>, text: &str) -> Option<Path>
@@ -43,6 +17,27 @@ fn matched(router: &Router<Path>, text: &str) -> Option<Path>
         Ok(found) => Some(*found.value),
         Err(_) => None,
     }
+}
+
+// Adds the path of a line. One that has several methods, and so several lines, is added once.
+fn add(router: &mut Router<Path>, path: Path) -> Result<(), InsertError>
+    ensures { OnOk result (router.new ≡ with_path router.old path) }
+{
+    match matched(router, path.as_str()) {
+        Some(_) => Ok(()),
+        None => router.insert(path.as_str(), path),
+    }
+}
+
+// The router that has the paths of all lines.
+fn router_of_paths(alloc: Global) -> Result<Router<Path>, InsertError>
+    ensures { IfOk result (λ paths. paths ≡ router) }
+{
+    let mut router = Router::new(alloc);
+    for line in ROUTES {
+        add(&mut router, line.0)?;
+    }
+    Ok(router)
 }
 
 /// The paths that there are. They are made once and asked for any number of texts.
@@ -70,5 +65,15 @@ impl Paths {
         ensures written { (path : Path) → (result ≡ Some path) ↔ IsPath path text.now }
     {
         matched(&self.kept, text)
+    }
+
+    /// The path that bytes are, if they are a text in UTF-8 that is one. No memory is taken.
+    pub fn find_bytes(&self, bytes: &[u8]) -> Option<Path>
+        ensures { result ≡ path_spelled bytes.now }
+    {
+        match str::from_utf8(bytes) {
+            Ok(text) => self.find(text),
+            Err(_) => None,
+        }
     }
 }

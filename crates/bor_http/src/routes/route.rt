@@ -37,7 +37,7 @@ pub enum Route {
 }
 
 // The table of routes, in the order of [`Route`]: the path and the method that each is asked for by.
-const ROUTES: [(Path, &str, Route); 13] = [
+pub(super) const ROUTES: [(Path, &str, Route); 13] = [
     (Path::Filing, "PUT", Route::Lodge),
     (Path::Filing, "DELETE", Route::Withdraw),
     (Path::Filings, "GET", Route::Filings),
@@ -94,15 +94,8 @@ pub fn allow_of(path: Path) -> &'static str
 {
     match path {
         Path::Filing => "DELETE, PUT",
-        Path::Filings
-        | Path::File
-        | Path::Published
-        | Path::Snapshot
-        | Path::Chains
-        | Path::Evidence
-        | Path::Entities
-        | Path::Register => "GET",
         Path::Day | Path::Agents => "POST",
         Path::Agent => "PUT",
+        _ => "GET",
     }
 }

@@ -18,9 +18,10 @@ use Rattle.bor_http.specs.declared.incoming.fault.Refusal.TheVariants.{HeadTooLa
 use Rattle.bor_http.specs.Incoming.Words.{name_word}
 use Rattle.bor_http.specs.Incoming.Head.{head_len, head_limit}
 use Rattle.bor_http.specs.Incoming.Message.{Parts, FieldText}
+use Rattle.bor_http.specs.Routes.Paths.{path_spelled}
 use Rattle.bor_http.proofs.OnRoutes.OnLiterals.{routes_on_literals}
 use Rattle.bor_wire.specs.Spelling.Query.{as_text}
-use Rattle.bor_wire.specs.Spelling.Parts.{text_in, path_spelled, bearer_token, token, once, at_most_once, key_in, name_in}
+use Rattle.bor_wire.specs.Spelling.Parts.{text_in, bearer_token, token, once, at_most_once, key_in, name_in}
 use Rattle.bor_wire.specs.Spelling.Refusals.{lines_of_message, refusals_spelled}
 use Rattle.bor_wire.specs.Spelling.Spell.{Spelled, Spells, asked, spell, spelling}
 use Rattle.bor_http.proofs.OnIncoming.Examples.{begins, of_literal}

@@ -3,9 +3,8 @@ use Rattle.std.proofs.Common.{◌≡◌, ℕ, List, Option, None, true, false, B
 use Rattle.std.specs.Str.{IsUtf8, is_utf8}
 use Rattle.std.specs.Str.Lossy.{utf8_lossy}
 use Rattle.std.proofs.lemmas.Str.{IsUtf8-from_is_utf8, is_utf8-from_IsUtf8, utf8_lossy-IsUtf8}
-use Rattle.bor_http.specs.Routes.Paths.{path_of}
 use Rattle.bor_wire.specs.Spelling.Query.{as_text}
-use Rattle.bor_wire.specs.Spelling.Parts.{fitting, text_in, path_spelled}
+use Rattle.bor_wire.specs.Spelling.Parts.{fitting, text_in}
 
 -- no text, and so not what a text would be
 untold : {A : Type 0} (bytes : List ℕ) (told : Option A) → ¬ (IsUtf8 bytes) → cond (is_utf8 bytes) told None ≡ None
@@ -14,14 +13,6 @@ untold bytes told h = go (is_utf8 bytes) refl
     go : (t : Bool) → is_utf8 bytes ≡ t → cond t told None ≡ None
     go true e = absurd (h (IsUtf8-from_is_utf8 bytes e))
     go false e = refl
-
-pub path_in-text : (text : List ℕ) → IsUtf8 text → path_spelled text ≡ path_of text
-unfolding path_spelled
-path_in-text text h = rw (is_utf8-from_IsUtf8 text h) refl
-
-pub path_in-other : (text : List ℕ) → ¬ (IsUtf8 text) → path_spelled text ≡ None
-unfolding path_spelled
-path_in-other text h = untold text (path_of text) h
 
 pub text_in-text : (fits : List ℕ → Bool) (bytes : List ℕ) → IsUtf8 bytes → text_in fits bytes ≡ fitting fits bytes
 unfolding text_in

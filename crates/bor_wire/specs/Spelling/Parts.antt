@@ -14,7 +14,7 @@ use Rattle.bor_http.specs.Incoming.Words.{name_word}
 use Rattle.bor_http.specs.Incoming.Message.{Message, FieldText, only_value}
 use Rattle.bor_http.specs.declared.routes.route.Route.{Route}
 use Rattle.bor_http.specs.Routes.Routes.{route_at}
-use Rattle.bor_http.specs.Routes.Paths.{path_of}
+use Rattle.bor_http.specs.Routes.Paths.{path_spelled}
 use Rattle.bor_wire.specs.Spelling.Query.{TextPair, pairs_of, how_often, only_text}
 
 -- a text that fits
@@ -32,10 +32,6 @@ path_text m = before_byte 63 m.parts.target
 
 abbrev pub query : Message → List TextPair
 query m = pairs_of (behind_byte 63 m.parts.target)
-
--- the path that a text in UTF-8 is
-unfoldable pub path_spelled : List ℕ → Option Path
-path_spelled text = if is_utf8 text then path_of text else None
 
 -- the path, as it stands in the target
 abbrev pub path : Message → Option Path

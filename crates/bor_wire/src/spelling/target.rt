@@ -2,7 +2,8 @@
 ghost use Rattle.std.specs.Prelude.{◌≡◌, drop};
 ghost use Rattle.bor_http.specs.declared.incoming.fault.Refusal.TheVariants.{NoPath};
 ghost use Rattle.bor_http.specs.declared.incoming.fault.Name.TheVariants as names;
-ghost use Rattle.bor_wire.specs.Spelling.Parts.{path_spelled, key_in, name_in};
+ghost use Rattle.bor_http.specs.Routes.Paths.{path_spelled};
+ghost use Rattle.bor_wire.specs.Spelling.Parts.{key_in, name_in};
 ghost use Rattle.bor_wire.specs.Spelling.Steps.{FindsStated, or_refuse, named};
 
 use bor_http::incoming::{Name, Path, Refusal, WireFault, split_at_first};
@@ -14,10 +15,7 @@ use std::alloc::Global;
 pub(crate) fn path_at(paths: &Paths, text: &[u8]) -> Result<Path, WireFault>
     ensures { FindsStated (λ path. path) result (or_refuse NoPath (path_spelled text.now)) }
 {
-    let Ok(text) = str::from_utf8(text) else {
-        return Err(WireFault::Refused(Refusal::NoPath));
-    };
-    match paths.find(text) {
+    match paths.find_bytes(text) {
         Some(path) => Ok(path),
         None => Err(WireFault::Refused(Refusal::NoPath)),
     }
