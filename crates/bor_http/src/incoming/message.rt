@@ -7,9 +7,10 @@ ghost use Rattle.bor_http.specs.Incoming.Message.{only_value};
 ghost use Rattle.bor_http.specs.Incoming.Progress.{IsHeadOf};
 ghost use Rattle.bor_http.specs.Incoming.Reading.{IsReadAs};
 ghost use Rattle.bor_http.specs.Incoming.Steps.{AreWithin, HeadAnswers, parts_at};
+ghost use Rattle.bor_http.specs.Incoming.Splitting.{before_byte, behind_byte};
 
 use crate::incoming::fault::{Refusal, WireFault};
-use crate::incoming::fields::{count_named, find_value};
+use crate::incoming::head::{count_named, find_value};
 use crate::incoming::progress::Progress;
 use httparse::Status;
 use httparse::spans::{EMPTY_HEADER_SPAN, HeaderSpan, Span, parse_request};
@@ -151,4 +152,16 @@ pub fn message_in<'a>(alloc: Global, input: &'a [u8]) -> Result<RawRequest<'a>, 
     ensures reading { IsReadAs input.now result }
 {
     Progress::none().message(alloc, input)
+}
+
+/// The bytes before the first one that is this, and those behind it; all and none where there is
+/// none.
+pub fn split_at_first(bytes: &[u8], byte: u8) -> (&[u8], &[u8])
+    ensures before { result.0.now ≡ before_byte byte bytes.now }
+    ensures behind { result.1.now ≡ behind_byte byte bytes.now }
+{
+    match bytes.iter().position(|b| *b == byte) {
+        Some(i) => (&bytes[..i], &bytes[i + 1..]),
+        None => (bytes, &[]),
+    }
 }

@@ -20,20 +20,16 @@
 
 mod counted;
 mod fault;
-mod fields;
 mod head;
 pub mod laws;
-mod lengths;
 mod message;
 mod progress;
 mod request;
 mod sending;
-mod split;
 
 pub use counted::Counted;
 pub use fault::{Name, Path, Refusal, WireFault};
-pub use message::{MessageHead, RawRequest, message_in};
+pub use message::{MessageHead, RawRequest, message_in, split_at_first};
 pub use progress::Progress;
 pub use request::{REQUEST_LIMIT, read_request};
 pub use sending::send;
-pub use split::split_at_first;

@@ -7,8 +7,7 @@ ghost use Rattle.bor_http.specs.Incoming.Progress.{IsProgress, HasSearched, IsWh
 ghost use Rattle.bor_http.specs.Incoming.Reading.{IsReadAs};
 
 use crate::incoming::fault::{Refusal, WireFault};
-use crate::incoming::head::{has_few_lines, head_end_from};
-use crate::incoming::lengths::body_length;
+use crate::incoming::head::{body_length, has_few_lines, head_end_from};
 use crate::incoming::message::{HEAD_LIMIT, MessageHead, RawRequest, parse_head};
 use std::alloc::{AllocError, Global};
 

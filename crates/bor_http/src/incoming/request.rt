@@ -8,7 +8,7 @@ ghost use Rattle.bor_http.specs.Incoming.Reading.{FaultsTell, IsReadInPart, Says
 
 use crate::incoming::counted::Counted;
 use crate::incoming::fault::WireFault;
-use crate::incoming::lengths::BODY_LIMIT;
+use crate::incoming::head::BODY_LIMIT;
 use crate::incoming::message::HEAD_LIMIT;
 use crate::incoming::progress::Progress;
 use std::alloc::Global;

@@ -3,7 +3,7 @@ use Rattle.std.specs.Option.{option_map}
 use Rattle.httparse.specs.Spans.{header_bytes}
 use Rattle.bor_http.specs.Incoming.Steps.{body_len}
 use Rattle.bor_http.proofs.OnIncoming.OnePass.{len_after}
-use Rattle.bor_http.proofs.incoming.lengths.body_length.Given as goal
+use Rattle.bor_http.proofs.incoming.head.body_length.Given as goal
 
 abbrev pub invariant-loop-field : goal.invariant-loop-field
 invariant-loop-field l =

@@ -1,7 +1,7 @@
 use Rattle.std.proofs.Common.{◌≡◌, ◌≤◌, ◌+◌, map, drop}
 use Rattle.httparse.specs.Spans.{header_bytes}
 use Rattle.bor_http.specs.Incoming.Message.{how_many}
-use Rattle.bor_http.proofs.incoming.fields.count_named.Given as goal
+use Rattle.bor_http.proofs.incoming.head.count_named.Given as goal
 
 abbrev pub invariant-loop-field : goal.invariant-loop-field
 invariant-loop-field l = record {

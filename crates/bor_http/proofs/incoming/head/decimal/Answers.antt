@@ -1,7 +1,7 @@
 use Rattle.std.proofs.Common.{◌≡◌, arith, true, sym, ◌∙◌, get_or}
 use Rattle.std.specs.Char.{is_ascii_digit}
 use Rattle.bor_http.proofs.OnIncoming.LengthLemmas.{digits_step, value_step}
-use Rattle.bor_http.proofs.incoming.lengths.decimal.Goals as goal
+use Rattle.bor_http.proofs.incoming.head.decimal.Goals as goal
 
 pub loop-b-preserved : goal.loop-b-preserved
 loop-b-preserved c =

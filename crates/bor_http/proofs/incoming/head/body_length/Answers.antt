@@ -3,8 +3,8 @@ use Rattle.std.specs.Option.{is_some, option_map}
 use Rattle.std.proofs.lemmas.List.{drop_all}
 use Rattle.httparse.specs.Spans.{header_bytes}
 use Rattle.bor_http.proofs.OnIncoming.OnePass.{len_after, after_none, at_end, at_end_with, encoded_at, is_some-mapped, twice_at, taken_at, passed_at}
-use Rattle.bor_http.proofs.incoming.lengths.body_length.Goals as goal
-use Rattle.bor_http.proofs.incoming.lengths.body_length.Goals.{then-has_name-2+else-is_some, else-has_name-2}
+use Rattle.bor_http.proofs.incoming.head.body_length.Goals as goal
+use Rattle.bor_http.proofs.incoming.head.body_length.Goals.{then-has_name-2+else-is_some, else-has_name-2}
 
 pub loop-field-init : goal.loop-field-init
 loop-field-init c = after_none (map (header_bytes c.args.head.now) c.args.fields.now)
