@@ -1,5 +1,5 @@
 -- The checks of the worked file and of files that are refused, and reports on the worked file.
-use Rattle.std.proofs.Common.{◌≡◌, ◌≤◌, ℕ, List, [], ◌∷◌, Option, Some, None, Contains, codes, length, arith, true, refl, sym, ap, ◌∙◌, subst, inl, inr}
+use Rattle.std.proofs.Common.{◌≡◌, ◌≤◌, ℕ, List, [], ◌∷◌, Some, None, Contains, codes, length, arith, true, refl, sym, ap, ◌∙◌, subst, inl, inr}
 use Rattle.std.specs.Fmt.{digits}
 use Rattle.std.specs.List.Sorted.{IsStrictlySortedBy}
 use Rattle.serde_json.proofs.OnLiterals.{serde_json_on_literals}
@@ -16,6 +16,8 @@ use Rattle.bor_desk.specs.Operations.Sight.{seen_by}
 use Rattle.bor_records.specs.declared.links.node.Node.{Node}
 use Rattle.bor_records.specs.declared.links.node.NodeInfo.TheVariants.{Entity, Person}
 use Rattle.bor_records.specs.declared.links.node.Link.{Link}
+use Rattle.bor_records.specs.declared.links.node.PersonInfo.{PersonInfo}
+use Rattle.bor_records.specs.Links.Rows.{person_named}
 use Rattle.bor_chains.specs.declared.line.PersonLine.{PersonLine}
 use Rattle.bor_records.specs.Links.Shown.{Shown, IsPerson, info_of}
 use Rattle.bor_chains.specs.Chains.{IsChain, IsJoinedBy, IsLeast, AreJoined}
@@ -75,9 +77,12 @@ p1 = node (codes "p1")
 abbrev held : Link
 held = record { rec = codes "r1"; subject = e1; party = p1; stake = true; holding = true }
 
+abbrev of_ann : PersonInfo
+of_ann = person_named (Some (codes "Ann Moss"))
+
 abbrev worked : Shown
 worked = record {
-  nodes = record { node = e1; info = Entity true; identifiers = [] } ∷ record { node = p1; info = Person (Some (codes "Ann Moss")); identifiers = [] } ∷ [];
+  nodes = record { node = e1; info = Entity true; identifiers = [] } ∷ record { node = p1; info = Person of_ann; identifiers = [] } ∷ [];
   links = held ∷ [];
 }
 
@@ -104,18 +109,18 @@ unfolding refusal_name
 refusal = refl
 
 abbrev ann : PersonLine
-ann = record { node = p1; name = Some (codes "Ann Moss"); links = 1 }
+ann = record { node = p1; info = of_ann; links = 1 }
 
 named : person_line ann ≡ codes "person\tcheck\tc1\tp1\t1\t\"Ann Moss\"\n"
 unfolding digits serde_json_on_literals
 named = refl
 
-unnamed : person_line (record ann { name = None }) ≡ codes "person\tcheck\tc1\tp1\t1\tnull\n"
+unnamed : person_line (record ann { info = person_named None }) ≡ codes "person\tcheck\tc1\tp1\t1\tnull\n"
 unfolding digits
 unnamed = refl
 
 -- a name's tab and line feed are escaped
-escaped : person_line (record ann { name = Some (codes "A\tB\n") }) ≡ codes "person\tcheck\tc1\tp1\t1\t\"A\\tB\\n\"\n"
+escaped : person_line (record ann { info = person_named (Some (codes "A\tB\n")) }) ≡ codes "person\tcheck\tc1\tp1\t1\t\"A\\tB\\n\"\n"
 unfolding digits serde_json_on_literals
 escaped = refl
 
@@ -128,10 +133,10 @@ from_p1 n [] h = absurd h
 from_p1 n (l ∷ []) h = ap (λ (x : Link). x.party) (only_link l h.0) ∙ h.1
 from_p1 n (l ∷ k ∷ ls) h = ap (λ (x : Link). x.party) (only_link l h.0) ∙ h.1
 
-only_ann : (person : Node) (name : Option (List ℕ)) (ls : List Link) → IsJoinedBy worked e1 person name ls → (p1 ≡ person) × (Some (codes "Ann Moss") ≡ name)
-only_ann person name ls h =
+only_ann : (person : Node) (info : PersonInfo) (ls : List Link) → IsJoinedBy worked e1 person info ls → (p1 ≡ person) × (of_ann ≡ info)
+only_ann person info ls h =
     let at = from_p1 person ls h.1 in
-    let known : Some (Person (Some (codes "Ann Moss"))) ≡ Some (Person name) = ap (info_of worked) at ∙ h.0 in (at, cc)
+    let known : Some (Person of_ann) ≡ Some (Person info) = ap (info_of worked) at ∙ h.0 in (at, cc)
 
 -- one link, and no chain has none
 one_link : IsLeast worked e1 p1 1
@@ -145,10 +150,10 @@ joined : AreJoined worked e1 (ann ∷ [])
 unfolding IsStrictlySortedBy
 joined = record {
   each = λ line on. elim (cases ann [] line on) [
-    | inl e ↦ subst (λ (x : PersonLine). IsPerson worked x.node x.name × IsLeast worked e1 x.node x.links) e (refl, one_link)
+    | inl e ↦ subst (λ (x : PersonLine). IsPerson worked x.node x.info × IsLeast worked e1 x.node x.links) e (refl, one_link)
     | inr n ↦ absurd (none line n)
   ];
-  every = λ person name ls h. let only = only_ann person name ls h in (ann, here ann [], only.0, only.1);
+  every = λ person info ls h. let only = only_ann person info ls h in (ann, here ann [], only.0, only.1);
   sorted = (tt, tt);
 }
 

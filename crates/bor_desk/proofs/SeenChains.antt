@@ -33,7 +33,7 @@ no_entity-refused s n day none = at (info_of s n) refl
   where
     at : (info : Option NodeInfo) → info_of s n ≡ info → report_on s n day ≡ refused NoEntity
     at None e = ap (λ (i : Option NodeInfo). cond (is_entity_info i) (report n day s) (refused NoEntity)) e
-    at (Some (Person name)) e = ap (λ (i : Option NodeInfo). cond (is_entity_info i) (report n day s) (refused NoEntity)) e
+    at (Some (Person info)) e = ap (λ (i : Option NodeInfo). cond (is_entity_info i) (report n day s) (refused NoEntity)) e
     at (Some (Entity legal)) e = absurd (none (legal, e))
 
 -- what is right by the nodes and links that a viewer sees

@@ -27,6 +27,7 @@ use Rattle.bor_records.specs.declared.links.node.Node.{Node}
 use Rattle.bor_records.specs.declared.links.node.NodeInfo.TheVariants as nodes
 use Rattle.bor_records.specs.declared.links.node.OpenNode.{OpenNode}
 use Rattle.bor_records.specs.declared.links.node.Link.{Link}
+use Rattle.bor_records.specs.Links.Rows.{person_named}
 use Rattle.bor_records.specs.Links.Shown.{Shown}
 use Rattle.bor_records.specs.Links.Aliases.{Alias}
 use Rattle.bor_chains.specs.Chains.{IsJoinedBy}
@@ -223,7 +224,7 @@ lower = record { rec = codes "br"; subject = b1_node; party = bp_node; stake = t
 abbrev seen : Shown
 seen = record {
   nodes = entity_node e1_node [] ∷ entity_node a1_node (number_one ∷ []) ∷ entity_node b1_node (number_one ∷ [])
-      ∷ record { node = bp_node; info = nodes.Person (Some (codes "Bea Pine")); identifiers = [] } ∷ [];
+      ∷ record { node = bp_node; info = nodes.Person (person_named (Some (codes "Bea Pine"))); identifiers = [] } ∷ [];
   links = upper ∷ lower ∷ [];
 }
 
@@ -316,7 +317,7 @@ unfolding reader calendar
 told_alone = refl
 
 -- 12: the report that it is told names birch's person, by way of the identifier
-bea_is_joined : IsJoinedBy seen e1_node bp_node (Some (codes "Bea Pine")) (lower ∷ upper ∷ [])
+bea_is_joined : IsJoinedBy seen e1_node bp_node (person_named (Some (codes "Bea Pine"))) (lower ∷ upper ∷ [])
 bea_is_joined =
     let alias : Alias seen b1_node a1_node = record { one = entity_node b1_node (number_one ∷ []); two = entity_node a1_node (number_one ∷ []); one_is = refl; two_is = refl; alike = refl } in
     (refl, (there upper (lower ∷ []) lower (here lower []), refl, refl, (a1_node ∷ [], (alias, refl)), refl, (here upper (lower ∷ []), refl, refl, ([], refl))))
@@ -330,7 +331,7 @@ all_in of (answer ∷ rest) = of answer ++ all_in of rest
 
 -- the names of the persons in a report
 abbrev names_of : List OpenNode → List (Option (List ℕ))
-names_of shown = filter_map (λ (n : OpenNode). elim n.info [ nodes.Entity legal ↦ None | nodes.Person name ↦ Some name ]) shown
+names_of shown = filter_map (λ (n : OpenNode). elim n.info [ nodes.Entity legal ↦ None | nodes.Person info ↦ Some info.name ]) shown
 
 abbrev names : Answer → List (Option (List ℕ))
 names (report entity day shown) = names_of shown.nodes

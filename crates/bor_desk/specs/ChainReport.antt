@@ -6,6 +6,7 @@ use Rattle.serde_json.specs.Data.{Data, null, string}
 use Rattle.serde_json.specs.Written.{compact_text}
 use Rattle.bor_terms.specs.Day.{IsSpelling}
 use Rattle.bor_records.specs.declared.links.node.Node.{Node}
+use Rattle.bor_records.specs.declared.links.node.PersonInfo.{PersonInfo}
 use Rattle.bor_records.specs.Links.Nodes.{link_record}
 use Rattle.bor_records.specs.Links.Rows.{shown_of}
 use Rattle.bor_chains.specs.declared.line.PersonLine.{PersonLine}
@@ -30,7 +31,7 @@ name_data (Some name) = string name
 abbrev pub person_line : PersonLine → List ℕ
 person_line p =
     tabbed (codes "person") (p.node.agent ∷ p.node.declaration ∷ p.node.rec ∷ decimal p.links
-    ∷ compact_text (name_data p.name) ∷ [])
+    ∷ compact_text (name_data p.info.name) ∷ [])
 
 abbrev pub person_lines : List PersonLine → List ℕ
 person_lines [] = []
@@ -63,14 +64,14 @@ pub record IsReportOn (shown : Shown) (entity : Node) (day : ℤ) (text : Text) 
 abbrev pub key_part : Node → List ℕ
 key_part n = 9 ∷ n.agent ++ 9 ∷ n.declaration ++ 9 ∷ n.rec
 
--- the line of a person up to the name
-abbrev pub person_part : Node → ℕ → Option (List ℕ) → List ℕ
-person_part n links name =
-    codes "person" ++ key_part n ++ 9 ∷ decimal links ++ 9 ∷ compact_text (name_data name)
+-- the line of a person up to what is shown of it
+abbrev pub person_part : Node → ℕ → PersonInfo → List ℕ
+person_part n links info =
+    codes "person" ++ key_part n ++ 9 ∷ decimal links ++ 9 ∷ compact_text (name_data info.name)
 
 -- of a person the line of a report, and the record of the first link
 abbrev pub evidenced_line : EvidencePerson → List ℕ
-evidenced_line p = person_part p.node p.links p.name ++ key_part (link_record p.first) ++ 10 ∷ []
+evidenced_line p = person_part p.node p.links p.info ++ key_part (link_record p.first) ++ 10 ∷ []
 
 abbrev pub evidenced_lines : List EvidencePerson → List ℕ
 evidenced_lines [] = []

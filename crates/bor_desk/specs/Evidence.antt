@@ -49,11 +49,11 @@ IsBridge s a b same = MatchBool (same_node a b) (same ≡ []) (IsLeastWay s a sa
 
 abbrev pub person_evidence : EvidencePerson → PersonEvidence
 person_evidence p =
-    record { node = p.node; name = p.name; first = link_record p.first; links = p.links }
+    record { node = p.node; info = p.info; first = link_record p.first; links = p.links }
 
 -- the line of a report that shows no chain
 abbrev pub without_first : PersonEvidence → PersonLine
-without_first p = record { node = p.node; name = p.name; links = p.links }
+without_first p = record { node = p.node; info = p.info; links = p.links }
 
 -- where a link leads: to the party of the one that follows it, or to the entity that was asked for
 abbrev pub goal_of : Node → EvidenceLink → Node

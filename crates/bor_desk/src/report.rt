@@ -17,7 +17,7 @@ use crate::operations::{Keep, KeepSource, StoreFault};
 use crate::refusal::DeskFault;
 use crate::text::{Text, answering, refused_text};
 use bods_read::FreeText;
-use bor_chains::{Node, PersonLine, persons_of};
+use bor_chains::{Node, PersonInfo, PersonLine, persons_of};
 use bor_terms::{AgentName, Day};
 use serde_json::Value;
 use std::alloc::{AllocError, Global};
@@ -51,21 +51,21 @@ fn name_text(alloc: Global, name: &Option<FreeText>) -> Result<String, AllocErro
     value.to_string(alloc)
 }
 
-/// Adds what stands in the line of a person, up to the name.
+/// Adds what stands in the line of a person, up to what is shown of it.
 pub(crate) fn person_text(
     alloc: Global,
     text: &mut String,
     node: &Node,
     links: u64,
-    name: &Option<FreeText>,
+    info: &PersonInfo,
 ) -> Result<(), AllocError>
     ensures { OnOk result (string_bytes text.new
-        ≡ string_bytes text.old ++ person_part node.now links name.now) }
+        ≡ string_bytes text.old ++ person_part node.now links info.now) }
 {
     let agent = node.agent.as_str();
     let declaration = node.declaration.as_str();
     let rec = node.rec.as_str();
-    let name = name_text(alloc, name)?;
+    let name = name_text(alloc, &info.name)?;
     write!(
         text,
         "person\t{agent}\t{declaration}\t{rec}\t{links}\t{name}"
@@ -77,7 +77,7 @@ fn add_person(alloc: Global, text: &mut String, person: &PersonLine) -> Result<(
     ensures { OnOk result
         (string_bytes text.new ≡ string_bytes text.old ++ person_line person.now) }
 {
-    person_text(alloc, text, &person.node, person.links, &person.name)?;
+    person_text(alloc, text, &person.node, person.links, &person.info)?;
     writeln!(text)
 }
 

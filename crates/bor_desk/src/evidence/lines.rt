@@ -4,8 +4,7 @@ ghost use Rattle.std.specs.Prelude.{◌≡◌, IfOk, map, option_map};
 ghost use Rattle.bor_records.specs.Links.Nodes.{link_record};
 ghost use Rattle.bor_desk.specs.Evidence.{person_evidence};
 
-use bods_read::FreeText;
-use bor_chains::{EvidencePerson, Link, Node};
+use bor_chains::{EvidencePerson, Link, Node, PersonInfo};
 use bor_records::Entry;
 use bor_terms::{AgentName, Listed};
 use std::alloc::{AllocError, Global};
@@ -28,8 +27,8 @@ pub struct EntityEvidence {
 pub struct PersonEvidence {
     /// The record of the person.
     pub node: Node,
-    /// The name that is shown.
-    pub name: Option<FreeText>,
+    /// What is shown of the person.
+    pub info: PersonInfo,
     /// The record of the first link of the person's chain.
     pub first: Node,
     /// The number of links of that chain.
@@ -86,7 +85,7 @@ fn person_line(alloc: Global, person: EvidencePerson) -> Result<PersonEvidence, 
     Ok(PersonEvidence {
         first: record_of(alloc, &person.first)?,
         node: person.node,
-        name: person.name,
+        info: person.info,
         links: person.links,
     })
 }

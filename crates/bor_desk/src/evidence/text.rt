@@ -34,7 +34,7 @@ fn add_person(alloc: Global, text: &mut String, person: &EvidencePerson) -> Resu
     ensures { OnOk result (string_bytes text.new
         ≡ string_bytes text.old ++ evidenced_line person.now) }
 {
-    person_text(alloc, text, &person.node, person.links, &person.name)?;
+    person_text(alloc, text, &person.node, person.links, &person.info)?;
     add_record(text, &record_of(alloc, &person.first)?)?;
     writeln!(text)
 }
