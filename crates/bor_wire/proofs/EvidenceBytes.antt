@@ -25,7 +25,7 @@ use Rattle.bor_wire.specs.ReportBytes.{IsShareCounted, AreSharesCounted, AreReco
 use Rattle.bor_wire.proofs.OnRendering.LengthTold.{same_body}
 use Rattle.bor_wire.proofs.OnRendering.ReadBack.{same_text}
 use Rattle.bor_wire.proofs.OnRendering.ItemsBack.{each_once, items_in, items_numbers, items_once, of_each}
-use Rattle.bor_wire.proofs.ReportBytes.{name_once, name_numbers, node_once}
+use Rattle.bor_wire.proofs.ReportBytes.{info_once, name_numbers, node_once}
 
 -- ---- parts of a value
 
@@ -89,12 +89,12 @@ next_numbers (Some n) = key_numbers n
 person_once : (p q : PersonEvidence) → p.links < 2 ^ 64 → q.links < 2 ^ 64 → outline (person_evidence_data p) ≡ outline (person_evidence_data q) → p ≡ q
 person_once p q few small h =
     ap (λ n. record p { node = n }) (node_once p.node q.node (ap (λ j. text (value j)) h) (ap (λ j. text (second j)) h) (ap (λ j. text (sixth j)) h))
-    ∙ ap (λ n. record p { node = q.node; name = n }) (name_once p.name q.name (ap fifth h))
+    ∙ ap (λ i. record p { node = q.node; info = i }) (info_once p.info q.info (ap fifth h))
     ∙ ap (λ n. record q { first = n; links = p.links }) (key_once p.first q.first (ap third h))
     ∙ ap (λ l. record q { links = l }) (decimal_injective p.links q.links few small (ap (λ j. digits (fourth j)) h))
 
 person_numbers : (p : PersonEvidence) → p.links < 2 ^ 64 → HasNumbers (outline (person_evidence_data p))
-person_numbers p few = (tt, (tt, (key_numbers p.first, (IsNumber-decimal p.links few, (name_numbers p.name, (tt, tt))))))
+person_numbers p few = (tt, (tt, (key_numbers p.first, (IsNumber-decimal p.links few, (name_numbers p.info.name, (tt, tt))))))
 
 -- ---- links
 

@@ -6,6 +6,7 @@ use Rattle.json.proofs.Printed.Decimals.{IsNumber-decimal}
 use Rattle.serde_json.specs.Data.{string}
 use Rattle.serde_json.specs.Written.{outline}
 use Rattle.bor_records.specs.declared.links.node.Node.{Node}
+use Rattle.bor_records.specs.declared.links.node.PersonInfo.{PersonInfo}
 use Rattle.bor_chains.specs.declared.line.PersonLine.{PersonLine}
 use Rattle.bor_desk.specs.declared.reply.DeskReply.TheVariants as tell
 use Rattle.bor_wire.specs.Rendering.Values.{maybe_data, person_data, chains_data}
@@ -18,7 +19,7 @@ use Rattle.bor_wire.proofs.OnRendering.ItemsBack.{items_numbers, items_once}
 
 -- ---- a person
 
-pub name_once : (a b : Option (List ℕ)) → outline (maybe_data string a) ≡ outline (maybe_data string b) → a ≡ b
+name_once : (a b : Option (List ℕ)) → outline (maybe_data string a) ≡ outline (maybe_data string b) → a ≡ b
 name_once None None h = refl
 name_once None (Some y) h = absurd cc
 name_once (Some x) None h = absurd cc
@@ -28,10 +29,13 @@ pub node_once : (a b : Node) → a.agent ≡ b.agent → a.declaration ≡ b.dec
 node_once a b agent declaration rec' =
     ap (λ x. record a { agent = x }) agent ∙ ap (λ x. record a { agent = b.agent; declaration = x }) declaration ∙ ap (λ x. record b { rec = x }) rec'
 
+pub info_once : (a b : PersonInfo) → outline (maybe_data string a.name) ≡ outline (maybe_data string b.name) → a ≡ b
+info_once a b name = ap (λ n. record a { name = n }) (name_once a.name b.name name)
+
 person_once : (p q : PersonLine) → p.links < 2 ^ 64 → q.links < 2 ^ 64 → outline (person_data p) ≡ outline (person_data q) → p ≡ q
 person_once p q few small h =
     ap (λ n. record p { node = n }) (node_once p.node q.node (cc) (cc) (cc))
-    ∙ ap (λ n. record q { name = n; links = p.links }) (name_once p.name q.name (cc))
+    ∙ ap (λ i. record q { info = i; links = p.links }) (info_once p.info q.info (cc))
     ∙ ap (λ l. record q { links = l }) (decimal_injective p.links q.links few small (cc))
 
 pub name_numbers : (name : Option (List ℕ)) → HasNumbers (outline (maybe_data string name))
@@ -39,7 +43,7 @@ name_numbers None = tt
 name_numbers (Some x) = tt
 
 person_numbers : (p : PersonLine) → p.links < 2 ^ 64 → HasNumbers (outline (person_data p))
-person_numbers p few = (tt, (tt, (IsNumber-decimal p.links few, (name_numbers p.name, (tt, tt)))))
+person_numbers p few = (tt, (tt, (IsNumber-decimal p.links few, (name_numbers p.info.name, (tt, tt)))))
 
 -- ---- the report
 

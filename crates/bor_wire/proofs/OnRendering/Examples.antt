@@ -16,6 +16,7 @@ use Rattle.bods_read.specs.declared.interest.InterestKind.TheVariants as interes
 use Rattle.bods_read.specs.Faults.{file_fault_word, fault_word}
 use Rattle.bods_read.specs.Words.{field_word, interest_word, directness_word, entity_word}
 use Rattle.bor_terms.specs.Span.{range}
+use Rattle.bor_records.specs.Links.Rows.{person_named}
 use Rattle.bor_register.specs.declared.filing.State.TheVariants.{Published, Withdrawn}
 use Rattle.bor_register.specs.Publication.{state_word}
 use Rattle.bor_desk.specs.declared.refusal.Refusal.TheVariants as refuse
@@ -75,7 +76,7 @@ no_filings = refl
 
 -- a person without a name
 pub one_person : chains_text (record { agent = codes "alder"; declaration = codes "c1"; rec = codes "e1" }) (pos 19754)
-    (record { node = record { agent = codes "birch"; declaration = codes "c9"; rec = codes "bp" }; name = None; links = 2 } ∷ [])
+    (record { node = record { agent = codes "birch"; declaration = codes "c9"; rec = codes "bp" }; info = person_named None; links = 2 } ∷ [])
     ≡ codes "{\"agent\":\"alder\",\"date\":\"2024-02-01\",\"declaration\":\"c1\",\"persons\":[{\"agent\":\"birch\",\"declaration\":\"c9\",\"links\":2,\"name\":null,\"record\":\"bp\"}],\"record\":\"e1\"}"
 unfolding digits chains_text escape_byte day_text year_at month_at calendar
 one_person = refl

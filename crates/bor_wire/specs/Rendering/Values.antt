@@ -152,7 +152,7 @@ person_data p =
     (member (codes "agent") (string p.node.agent)
     (member (codes "declaration") (string p.node.declaration)
     (member (codes "links") (count_data p.links)
-    (member (codes "name") (maybe_data string p.name)
+    (member (codes "name") (maybe_data string p.info.name)
     (member (codes "record") (string p.node.rec) no_members)))))
 
 -- the entity, the date, and the persons
@@ -182,7 +182,7 @@ person_evidence_data p =
     (member (codes "declaration") (string p.node.declaration)
     (member (codes "first") (key_data p.first)
     (member (codes "links") (count_data p.links)
-    (member (codes "name") (maybe_data string p.name)
+    (member (codes "name") (maybe_data string p.info.name)
     (member (codes "record") (string p.node.rec) no_members))))))
 
 abbrev pub link_evidence_data : LinkEvidence → Data

@@ -18,7 +18,7 @@ impl Shown for PersonLine {
         out.key("links")?;
         out.u64(self.links)?;
         out.key("name")?;
-        write_maybe(out, &self.name)?;
+        write_maybe(out, &self.info.name)?;
         write_text(out, "record", node.rec.as_str())?;
         out.end_object()
     }
