@@ -72,9 +72,10 @@ pub renewed-bare : (agent token : List ℕ) (r : Register) → with_renewal agen
 renewed-bare agent token r = ap (λ (ms : List Member). let q : Register = record r { members = ms } in q) (with_token-bare agent token r.members)
 
 -- what fits a register fits it without files
-pub may_file-bare : (agent key : List ℕ) (statements : List Statement) (r : Register) → MayFile agent key statements r → MayFile agent key statements (bare_register r)
-may_file-bare agent key statements r fits = record {
+pub may_file-bare : (agent : List ℕ) (count : ℕ) (key : List ℕ) (statements : List Statement) (r : Register) → MayFile agent count key statements r → MayFile agent count key statements (bare_register r)
+may_file-bare agent count key statements r fits = record {
   enrolled = enrolled-bare agent r.members ∙ fits.enrolled;
+  counted = fits.counted ∙ sym (count_is agent r.members);
   room = subst (λ (n : ℕ). n < filings_limit) (sym (count_is agent r.members)) fits.room;
   fresh = ap (filing_keyed key) (filings_of-bare agent r.members) ∙ keyed-bare key (filings_of agent r.members) ∙ ap (option_map without_file) fits.fresh;
   statements_are = subst (λ (live : List Live). AreNew live statements) (sym (live_is agent r.members)) fits.statements_are;

@@ -8,10 +8,12 @@ use Rattle.bor_register.specs.Register.{Register, filing_keyed, filings_of, is_e
 use Rattle.bor_register.specs.Register.{new_member, with_filings, with_member, with_token}
 use Rattle.bor_register.specs.Withdrawal.{with_withdrawn}
 
--- The agent is enrolled, has room for one more filing and none under the key, and its live
--- statements may have these beside them (`AreNew`).
-pub record MayFile (agent key : List ℕ) (statements : List Statement) (r : Register) : Type 0 where
+-- The agent is enrolled and has so many filings, room for one more and none under the key, and its
+-- live statements may have these beside them (`AreNew`).
+pub record MayFile (agent : List ℕ) (count : ℕ) (key : List ℕ) (statements : List Statement)
+    (r : Register) : Type 0 where
   pub enrolled : is_enrolled agent r.members ≡ true
+  pub counted : count ≡ length (filings_of agent r.members)
   pub room : length (filings_of agent r.members) < filings_limit
   pub fresh : filing_keyed key (filings_of agent r.members) ≡ None
   pub statements_are : AreNew (live_of (filings_of agent r.members)) statements

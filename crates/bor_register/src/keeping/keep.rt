@@ -1,6 +1,6 @@
 //! The keep of a register, whatever it consists of.
 
-ghost use Rattle.std.specs.Prelude.{◌≡◌, ℕ, ◌+◌, IfOk, map, option_map, length};
+ghost use Rattle.std.specs.Prelude.{◌≡◌, ℕ, IfOk, map, option_map, length};
 ghost use Rattle.bor_register.specs.declared.fault.StoreFault.{StoreFault};
 ghost use Rattle.bor_register.specs.Register.{Register, caller_of, is_enrolled, filings_of, filing_keyed};
 ghost use Rattle.bor_register.specs.Publication.{agent_line, published, line_of, filing_shown, has_bytes};
@@ -11,7 +11,7 @@ ghost use Rattle.bor_register.specs.Withdrawal.{has_successor};
 ghost use Rattle.bor_register.specs.Additions.{MayEnrol, MayFile, with_agent, with_filing, with_renewal, with_withdrawal};
 ghost use Rattle.bor_records.specs.Admission.{last_of};
 ghost use Rattle.bor_records.specs.Settling.{has_id};
-ghost use Rattle.bor_records.specs.Promises.{Changes, ChangesWhere, Meaning, Promised, Reads};
+ghost use Rattle.bor_records.specs.Promises.{Changes, ChangesWhere, Meaning, Reads};
 ghost use Rattle.bor_records.specs.Links.Series.{open_at};
 ghost use Rattle.bor_records.specs.Links.Shown.{info_of};
 ghost use Rattle.bor_records.specs.Links.Answers.{AreAliases, AreIdentified, AreSame, AreLinksInto};
@@ -218,23 +218,22 @@ pub trait Keep {
         ensures { Reads meaning self.old self.new result (λ r lines.
             lines.items ≡ map (agent_line r.day) r.members) };
 
-    /// Adds a filing to those of an agent, and gives its number. That is promised of each register
-    /// that the filing fits (`MayFile`): the agent is enrolled, and has room for one more and none
-    /// under the key; each statement has a status, and their identifiers are distinct and
-    /// no live statement's of the agent. Whether it fits is for the caller to test.
+    /// Adds a filing to those of an agent, which has `count` of them; its number is one more. That
+    /// is promised of each register that the filing fits (`MayFile`): the agent is enrolled, and has
+    /// that many filings, room for one more and none under the key; each statement has a status,
+    /// and their identifiers are distinct and no live statement's of the agent. Whether it fits is
+    /// for the caller to test.
     fn add_filing(
         &mut self,
         agent: &AgentName,
+        count: usize,
         key: &LodgeKey,
         due: Day,
         bytes: &[u8],
         statements: &[Statement],
-    ) -> Result<u32, StoreFault>
-        ensures number { Promised meaning self.old self.new (λ r.
-            MayFile agent.now key.now statements.now r → IfOk result (λ number.
-            number ≡ length (filings_of agent.now r.members) + 1)) }
-        ensures changes { ChangesWhere meaning self.old self.new result
-            (MayFile agent.now key.now statements.now)
+    ) -> Result<(), StoreFault>
+        ensures { ChangesWhere meaning self.old self.new result
+            (MayFile agent.now count key.now statements.now)
             (with_filing agent.now key.now due bytes.now statements.now) };
 
     /// Withdraws the agent's filing with this number: its statements are gone, its number, key, due
