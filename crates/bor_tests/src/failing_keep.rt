@@ -271,13 +271,16 @@ impl<K: Keep> Keep for FailingKeep<K> {
     fn add_filing(
         &mut self,
         agent: &AgentName,
+        count: usize,
         key: &LodgeKey,
         due: Day,
         bytes: &[u8],
         statements: &[Statement],
-    ) -> Result<u32, StoreFault> {
+    ) -> Result<(), StoreFault> {
         self.begin("add_filing")?;
-        let told = self.keep.add_filing(agent, key, due, bytes, statements);
+        let told = self
+            .keep
+            .add_filing(agent, count, key, due, bytes, statements);
         self.end(told)
     }
 

@@ -597,11 +597,12 @@ impl Keep for ListKeep {
     fn add_filing(
         &mut self,
         agent: &AgentName,
+        _count: usize,
         key: &LodgeKey,
         due: Day,
         bytes: &[u8],
         statements: &[Statement],
-    ) -> Result<u32, StoreFault> {
+    ) -> Result<(), StoreFault> {
         if !self.has_room(agent) {
             return Err(self.want_of_memory());
         }
@@ -617,9 +618,9 @@ impl Keep for ListKeep {
             bytes,
             statements,
         ) {
-            Ok(number) => {
+            Ok(_) => {
                 self.index = Some(index);
-                Ok(number)
+                Ok(())
             }
             Err(_) => Err(self.want_of_memory()),
         }

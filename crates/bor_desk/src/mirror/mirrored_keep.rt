@@ -157,20 +157,21 @@ fn filed(
     mirror: Option<ListKeep>,
     room: usize,
     agent: &AgentName,
+    count: usize,
     key: &LodgeKey,
     due: Day,
     statements: &[Statement],
 ) -> Option<ListKeep>
     ensures bounded { IsSome result → length statements.now ≤ room }
-    ensures followed { IsFollowed mirror result (MayFile agent.now key.now statements.now)
+    ensures followed { IsFollowed mirror result (MayFile agent.now count key.now statements.now)
         (with_filing agent.now key.now due [] statements.now) }
 {
     let mut mirror = mirror?;
     if statements.len() > room {
         return None;
     }
-    match mirror.add_filing(agent, key, due, &[], statements) {
-        Ok(_) => Some(mirror),
+    match mirror.add_filing(agent, count, key, due, &[], statements) {
+        Ok(()) => Some(mirror),
         Err(_) => None,
     }
 }
@@ -417,16 +418,21 @@ impl<K: MirrorStore + Drop> Keep for MirroredKeep<K> {
     fn add_filing(
         &mut self,
         agent: &AgentName,
+        count: usize,
         key: &LodgeKey,
         due: Day,
         bytes: &[u8],
         statements: &[Statement],
-    ) -> Result<u32, StoreFault> {
-        match self.store.add_filing(agent, key, due, bytes, statements) {
-            Ok(number) => {
-                self.mirror = filed(self.mirror.take(), self.room, agent, key, due, statements);
+    ) -> Result<(), StoreFault> {
+        match self
+            .store
+            .add_filing(agent, count, key, due, bytes, statements)
+        {
+            Ok(()) => {
+                let mirror = self.mirror.take();
+                self.mirror = filed(mirror, self.room, agent, count, key, due, statements);
                 self.room = self.room.saturating_sub(statements.len());
-                Ok(number)
+                Ok(())
             }
             Err(fault) => {
                 self.is_up = false;

@@ -7,8 +7,8 @@ ghost use Rattle.bor_records.specs.Admission.{Live, last_of};
 ghost use Rattle.bor_records.specs.Settling.{has_id, settled, verdict};
 ghost use Rattle.bor_register.specs.declared.filing.AcceptedFiling.{AcceptedFiling};
 ghost use Rattle.bor_register.specs.Register.{Register, is_enrolled, filings_of, filing_keyed};
-ghost use Rattle.bor_register.specs.Live.{AreNew, accepted, live_of};
-ghost use Rattle.bor_register.specs.Additions.{with_filing};
+ghost use Rattle.bor_register.specs.Live.{accepted, live_of};
+ghost use Rattle.bor_register.specs.Additions.{MayFile, with_filing};
 ghost use Rattle.bor_register.specs.Publication.{state_of_live, line_of};
 ghost use Rattle.bor_records.specs.Promises.{Changes, Kept, Leaves, Promised, Sure, Reads};
 ghost use Rattle.bor_desk.specs.declared.operations.fault.LodgeFault.TheVariants as lodge_faults;
@@ -195,19 +195,31 @@ fn repeat<K: Keep>(
     })
 }
 
-// The register's day, where the agent may have one more filing and the due day isn't past.
-fn day_for<K: Keep>(keep: &mut K, agent: &AgentName, due: Day) -> Result<Day, LodgeFault>
+// How many filings the agent has, where it may have one more.
+fn count_for<K: Keep>(keep: &mut K, agent: &AgentName) -> Result<usize, LodgeFault>
+    ensures kept { Kept K.meaning keep.old keep.new }
+    ensures accounted { Accounts K.meaning keep.old keep.new (store_fault of_lodging result) }
+    ensures answer { Promised K.meaning keep.old keep.new (λ r.
+        let count = length (filings_of agent.now r.members) in
+        IsDone of_lodging (λ count. count) result
+        (if nat_le filings_limit count then Err lodge_faults.FilingsFull else Ok count)) }
+    ensures few { IfOk result (λ count. count < filings_limit) }
+{
+    let count = keep.filing_count(agent)?;
+    if count >= FILINGS_LIMIT {
+        return Err(LodgeFault::FilingsFull);
+    }
+    Ok(count)
+}
+
+// The register's day, where the due day isn't past.
+fn day_for<K: Keep>(keep: &mut K, due: Day) -> Result<Day, LodgeFault>
     ensures kept { Kept K.meaning keep.old keep.new }
     ensures accounted { Accounts K.meaning keep.old keep.new (store_fault of_lodging result) }
     ensures answer { Promised K.meaning keep.old keep.new (λ r.
         IsDone of_lodging (λ day. day) result
-        (if nat_le filings_limit (length (filings_of agent.now r.members))
-        then Err lodge_faults.FilingsFull
-        else (if int_lt due r.day then Err lodge_faults.DuePast else Ok r.day))) }
+        (if int_lt due r.day then Err lodge_faults.DuePast else Ok r.day)) }
 {
-    if keep.filing_count(agent)? >= FILINGS_LIMIT {
-        return Err(LodgeFault::FilingsFull);
-    }
     let day = keep.day()?;
     if due < day {
         return Err(LodgeFault::DuePast);
@@ -215,9 +227,10 @@ fn day_for<K: Keep>(keep: &mut K, agent: &AgentName, due: Day) -> Result<Day, Lo
     Ok(day)
 }
 
-// The filing that a lodging under a new key adds.
+// The filing that a lodging under a new key adds, behind so many.
 #[derive(Drop)]
 struct Prepared {
+    count: usize,
     statements: Vec<Statement>,
     state: State,
 }
@@ -236,12 +249,17 @@ fn prepare<K: Keep>(
         (key : List ℕ) → IsDone of_lodging
         (λ new. accepted (filings_of agent.now r.members) key due bytes.now new.statements.items)
         result (addition (sight_of agent.now r) key due bytes.now)) }
+    ensures count { Promised K.meaning keep.old keep.new (λ r.
+        IfOk result (λ new. new.count ≡ length (filings_of agent.now r.members))) }
+    ensures few { IfOk result (λ new. new.count < filings_limit) }
     ensures state { Promised K.meaning keep.old keep.new (λ r.
         IfOk result (λ new. new.state ≡ state_of_live due r.day)) }
 {
-    let day = day_for(keep, agent, due)?;
+    let count = count_for(keep, agent)?;
+    let day = day_for(keep, due)?;
     let statements = settled(alloc, keep, agent, due, bytes)?;
     Ok(Prepared {
+        count,
         statements,
         state: State::of_live(due, day),
     })
@@ -251,25 +269,17 @@ fn prepare<K: Keep>(
 fn add_filing<K: Keep>(
     keep: &mut K,
     agent: &AgentName,
+    count: usize,
     key: &LodgeKey,
     due: Day,
     bytes: &[u8],
     statements: &[Statement],
-) -> Result<u32, StoreFault>
-    requires enrolled { Sure K.meaning keep.old (λ r.
-        is_enrolled agent.now r.members ≡ true) }
-    requires room { Sure K.meaning keep.old (λ r.
-        length (filings_of agent.now r.members) < filings_limit) }
-    requires fresh { Sure K.meaning keep.old (λ r.
-        filing_keyed key.now (filings_of agent.now r.members) ≡ None) }
-    requires statements { Sure K.meaning keep.old (λ r.
-        AreNew (live_of (filings_of agent.now r.members)) statements.now) }
-    ensures number { Promised K.meaning keep.old keep.new (λ r. IfOk result (λ number.
-        number ≡ length (filings_of agent.now r.members) + 1)) }
-    ensures changes { Changes K.meaning keep.old keep.new result
+) -> Result<(), StoreFault>
+    requires { Sure K.meaning keep.old (MayFile agent.now count key.now statements.now) }
+    ensures { Changes K.meaning keep.old keep.new result
         (with_filing agent.now key.now due bytes.now statements.now) }
 {
-    keep.add_filing(agent, key, due, bytes, statements)
+    keep.add_filing(agent, count, key, due, bytes, statements)
 }
 
 // Lodges a file under a key that is new to the agent.
@@ -293,9 +303,9 @@ fn lodge_new<K: Keep>(
     ensures accounted { Accounts K.meaning keep.old keep.new (store_fault of_lodging result) }
 {
     let new = prepare(alloc, keep, agent, due, bytes)?;
-    let number = add_filing(keep, agent, key, due, bytes, &new.statements)?;
+    add_filing(keep, agent, new.count, key, due, bytes, &new.statements)?;
     Ok(Lodged {
-        number,
+        number: new.count as u32 + 1,
         due,
         state: new.state,
         fresh: true,

@@ -1,6 +1,5 @@
 use Rattle.std.proofs.Common.{sym, subst}
 use Rattle.std.proofs.lemmas.Result.{err_from_is_err_and}
-use Rattle.bor_register.specs.Register.{filings_of}
 use Rattle.bor_register.specs.Live.{live_of, AreNew}
 use Rattle.bor_desk.specs.Operations.Sight.{sight_of}
 use Rattle.bor_desk.proofs.OnOperations.Refusals.{refuses_new, refused_lodging-outcome}
@@ -18,13 +17,16 @@ returns-in_err-new-clause-step g c = λ r is clean1.
     let told = refuses_new (sight_of c.args.agent.now r) key c.args.due c.args.bytes.now e (c.requires.new_key r is clean0) (c.in_err-new.ensures.answer r is clean1 key) in
     rw (p.1, p.2) (refused_lodging-outcome (g.K.Keep.meaning.shows c.prepare.new.keep) r c.args.agent.now key c.args.due c.args.bytes.now e told kept)
 
-pub add_filing-requires-clause-room : goal.add_filing-requires-clause-room
-add_filing-requires-clause-room g c = λ r kept clean.
+pub add_filing-requires : goal.add_filing-requires
+add_filing-requires g c = λ r kept clean.
     let is = (c.in_ok-new.ensures.kept.same clean r).1 kept in
-    addition_room (sight_of c.args.agent.now r) c.args.key.now c.args.due c.args.bytes.now _ (c.in_ok-new.ensures.answer r is clean c.args.key.now)
-
-pub add_filing-requires-clause-statements : goal.add_filing-requires-clause-statements
-add_filing-requires-clause-statements g c = λ r kept clean.
-    let is = (c.in_ok-new.ensures.kept.same clean r).1 kept in
-    let added = addition_new (sight_of c.args.agent.now r) c.args.key.now c.args.due c.args.bytes.now _ (c.in_ok-new.ensures.answer r is clean c.args.key.now) in
-    subst (AreNew (live_of (filings_of c.args.agent.now r.members))) (sym c.deref.ensures.value) added
+    let began = c.in_ok-new.ensures.kept.began clean in
+    let sight = sight_of c.args.agent.now r in
+    let added = c.in_ok-new.ensures.answer r is clean c.args.key.now in
+    record {
+      enrolled = c.requires.enrolled r is began;
+      counted = c.in_ok-new.ensures.count r is clean;
+      room = addition_room sight c.args.key.now c.args.due c.args.bytes.now _ added;
+      fresh = c.requires.new_key r is began;
+      statements_are = subst (AreNew (live_of sight.own)) (sym c.deref.ensures.value) (addition_new sight c.args.key.now c.args.due c.args.bytes.now _ added);
+    }

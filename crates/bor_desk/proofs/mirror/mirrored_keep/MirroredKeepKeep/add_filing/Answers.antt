@@ -1,4 +1,4 @@
-use Rattle.std.proofs.Common.{[], Option, subst, sym}
+use Rattle.std.proofs.Common.{[], Option, subst}
 use Rattle.bor_register.specs.Additions.{MayFile, with_filing}
 use Rattle.bor_register.specs.Register.{Register}
 use Rattle.bor_register.proofs.BareChanges.{filed-bare, may_file-bare}
@@ -7,22 +7,18 @@ use Rattle.bor_desk.specs.Mirror.Following.{IsFollowed}
 use Rattle.bor_desk.proofs.OnMirror.Mirroring.{failed_both, follows, made_both, register_in}
 use Rattle.bor_desk.proofs.mirror.mirrored_keep.MirroredKeepKeep.add_filing.Goals as goal
 
-pub returns-in-Ok-clause-number : goal.returns-in-Ok-clause-number
-returns-in-Ok-clause-number g c = λ r shown clean fits.
-    (let was = subst (λ k. g.K.Keep.meaning.shows k.0 r) (sym c.self.view_is) shown.0 in c.in-Ok.ensures.number r was clean fits)
-
-pub returns-in-Ok-clause-changes : goal.returns-in-Ok-clause-changes
-returns-in-Ok-clause-changes g c =
-    let Fits : Register → Type 0 = MayFile c.args.agent.now c.args.key.now c.args.statements.now in
+pub returns-in-Ok : goal.returns-in-Ok
+returns-in-Ok g c =
+    let Fits : Register → Type 0 = MayFile c.args.agent.now c.args.count c.args.key.now c.args.statements.now in
     let small : Register → Register = with_filing c.args.agent.now c.args.key.now c.args.due [] c.args.statements.now in
     let change : Register → Register = with_filing c.args.agent.now c.args.key.now c.args.due c.args.bytes.now c.args.statements.now in
-    let followed : IsFollowed c.self.inside.mirror c.filed.result Fits small = subst (λ (o : Option Holding). IsFollowed o c.filed.result Fits small) c.take.ensures.value c.filed.ensures.followed in
+    let followed : IsFollowed c.self.inside.mirror c.filed.result Fits small = subst (λ (o : Option Holding). IsFollowed o c.filed.result Fits small) c.take-mirror.ensures.value c.filed.ensures.followed in
     made_both g.K.Keep.meaning Fits change c.args.self.now c.self.inside.store c.add_filing.new.self (register_in c.self.inside.mirror) (register_in c.filed.result) c.self.view_is
-    (follows c.self.inside.mirror c.filed.result Fits small change followed (may_file-bare c.args.agent.now c.args.key.now c.args.statements.now) (filed-bare c.args.agent.now c.args.key.now c.args.due c.args.bytes.now c.args.statements.now))
-    c.in-Ok.ensures.changes
+    (follows c.self.inside.mirror c.filed.result Fits small change followed (may_file-bare c.args.agent.now c.args.count c.args.key.now c.args.statements.now) (filed-bare c.args.agent.now c.args.key.now c.args.due c.args.bytes.now c.args.statements.now))
+    c.in-Ok.ensures
 
-pub returns-in-Err-clause-changes : goal.returns-in-Err-clause-changes
-returns-in-Err-clause-changes g c =
+pub returns-in-Err : goal.returns-in-Err
+returns-in-Err g c =
     failed_both g.K.Keep.meaning
-    (MayFile c.args.agent.now c.args.key.now c.args.statements.now) (with_filing c.args.agent.now c.args.key.now c.args.due c.args.bytes.now c.args.statements.now)
-    c.args.self.now c.self.inside.store c.add_filing.new.self (register_in c.self.inside.mirror) c.self.view_is c.in-Err.ensures.changes
+    (MayFile c.args.agent.now c.args.count c.args.key.now c.args.statements.now) (with_filing c.args.agent.now c.args.key.now c.args.due c.args.bytes.now c.args.statements.now)
+    c.args.self.now c.self.inside.store c.add_filing.new.self (register_in c.self.inside.mirror) c.self.view_is c.in-Err.ensures
