@@ -226,13 +226,16 @@ impl<S: Alter + Drop, N: Notice + Drop> Keep for ServedKeep<S, N> {
     fn add_filing(
         &mut self,
         agent: &AgentName,
+        count: usize,
         key: &LodgeKey,
         due: Day,
         bytes: &[u8],
         statements: &[Statement],
-    ) -> Result<u32, StoreFault> {
+    ) -> Result<(), StoreFault> {
         let was_mirrored = self.keep.is_mirrored();
-        let told = self.keep.add_filing(agent, key, due, bytes, statements);
+        let told = self
+            .keep
+            .add_filing(agent, count, key, due, bytes, statements);
         self.notice_from(was_mirrored);
         told
     }

@@ -1,34 +1,14 @@
 -- The register after a change, and its answer.
-use Rattle.std.proofs.Common.{◌≡◌, ℕ, Result, Ok, Err, sym, subst, refl, ◌∙◌, ap}
+use Rattle.std.proofs.Common.{◌≡◌, ℕ, Result, Ok, Err, sym, subst, ◌∙◌, ap}
 use Rattle.std.specs.Prelude.{IfErr, IfOk, OnErr, OnOk}
 use Rattle.sqlite.specs.State.{State}
 use Rattle.sqlite.specs.declared.error.Error.{Error}
 use Rattle.bor_records.specs.Promises.{counted, left_by}
 use Rattle.bor_register.specs.Register.{Register}
 use Rattle.bor_register.specs.declared.fault.StoreFault.{StoreFault}
-use Rattle.bor_store_reads.specs.declared.fault.ReadError.{ReadError}
 use Rattle.bor_store_sql.specs.Shown.{ShowsIn}
-use Rattle.bor_store.specs.Telling.{tells, tells_made, IsNextFiling}
+use Rattle.bor_store.specs.Telling.{tells_made}
 use Rattle.bor_store_reads.proofs.Found.{still_shows}
-
-pub filed_shown : (made : Result ℕ ReadError) (told : Result ℕ StoreFault) (count : ℕ) (changed : Register) (new : State) → told ≡ tells made
-    → IfOk made (λ number. IsNextFiling number count changed new) → IfOk told (λ number. ShowsIn changed new)
-filed_shown (Ok number) told count changed new is next = subst (λ (t : Result ℕ StoreFault). IfOk t (λ number. ShowsIn changed new)) (sym is) next.shown
-filed_shown (Err error) told count changed new is next = subst (λ (t : Result ℕ StoreFault). IfOk t (λ number. ShowsIn changed new)) (sym is) tt
-
-pub unfiled_shown : (made : Result ℕ ReadError) (told : Result ℕ StoreFault) (r : Register) (old new : State) → told ≡ tells made
-    → OnErr made (new.committed ≡ old.committed) → ShowsIn r old → IfErr told (λ e. ShowsIn r new)
-unfiled_shown (Ok number) told r old new is kept shows = subst (λ (t : Result ℕ StoreFault). IfErr t (λ e. ShowsIn r new)) (sym is) tt
-unfiled_shown (Err error) told r old new is kept shows = subst (λ (t : Result ℕ StoreFault). IfErr t (λ e. ShowsIn r new)) (sym is) (still_shows r old new kept shows)
-
-counted_same : (made : Result ℕ ReadError) (n : ℕ) → counted made n ≡ counted (tells made) n
-counted_same (Ok number) n = refl
-counted_same (Err error) n = refl
-
-pub counted_told : (made : Result ℕ ReadError) (told : Result ℕ StoreFault) (n m : ℕ) → told ≡ tells made → m ≡ counted made n → m ≡ counted told n
-counted_told made told n m e is = is ∙ counted_same made n ∙ ap (λ (t : Result ℕ StoreFault). counted t n) (sym e)
-
--- ---- of a change but the addition of a filing
 
 -- what was made, or what was there where a fault is answered
 pub change_left : {X : Type 0} (made : Result X Error) (told : Result X StoreFault) (r changed : Register) (old new : State) → told ≡ tells_made made

@@ -26,11 +26,6 @@ module _ {K : Type 0} (state_of : K → State) (faults : K → ℕ) (old new : K
   lasts_made {X} (Ok x) told is up = subst (λ (t : Result X StoreFault). IfOk t (λ x. StaysClean (of_tables state_of faults) old new)) (sym is) (lasts (λ clean was. up clean))
   lasts_made {X} (Err error) told is up = subst (λ (t : Result X StoreFault). IfOk t (λ x. StaysClean (of_tables state_of faults) old new)) (sym is) tt
 
--- what is open stays open
-pub stays_up : {X : Type 0} (made : Result X ReadError) (old new : State) → OnOk made (IsUp new) → IfOk made (λ x. StaysUp old new)
-stays_up (Ok x) old new up = λ clean was. up clean
-stays_up (Err error) old new up = tt
-
 -- what is told comes from a connection that is open
 pub up_told : {X : Type 0} (answer : Result X ReadError) (told : Result X StoreFault) (new : State) → told ≡ tells answer → IfOk answer (λ x. IsUp new) → IfOk told (λ x. HasCleanDisk new → IsClean new)
 up_told {X} (Ok x) told new is up = subst (λ (t : Result X StoreFault). IfOk t (λ x. HasCleanDisk new → IsClean new)) (sym is) (λ clean. (clean, up clean))

@@ -18,10 +18,6 @@ pub undamaged_told : {X : Type 0} (P : X → Type 0) (answer : Result X ReadErro
 undamaged_told P (Ok x) told is h = subst (λ t. IfErr t TellsNoDamage) (sym is) tt
 undamaged_told P (Err error) told is h = subst (λ t. IfErr t TellsNoDamage) (sym is) (no_damage error h)
 
-pub undamaged_said : {X : Type 0} (answer : Result X ReadError) (told : Result X StoreFault) → told ≡ tells answer → IfErr answer IsNoDamage → IfErr told TellsNoDamage
-undamaged_said (Ok x) told is h = subst (λ t. IfErr t TellsNoDamage) (sym is) tt
-undamaged_said (Err error) told is h = subst (λ t. IfErr t TellsNoDamage) (sym is) (no_damage error h)
-
 no_damage_so : (is_memory : Bool) → TellsNoDamage (if is_memory then store_faults.Memory else store_faults.Store)
 no_damage_so true = λ e. (let it = e in cc)
 no_damage_so false = λ e. (let it = e in cc)

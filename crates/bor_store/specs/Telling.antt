@@ -1,11 +1,8 @@
 -- The fault of a keep for an error of the tables.
-use Rattle.std.specs.Prelude.{◌≡◌, ◌≢◌, ℕ, ◌+◌, if◌then◌else◌, Result, Ok, Err}
-use Rattle.sqlite.specs.State.{State}
+use Rattle.std.specs.Prelude.{◌≢◌, if◌then◌else◌, Result, Ok, Err}
 use Rattle.sqlite.specs.declared.error.Error.{Error}
-use Rattle.bor_register.specs.Register.{Register}
 use Rattle.bor_register.specs.declared.fault.StoreFault.{StoreFault}
 use Rattle.bor_register.specs.declared.fault.StoreFault.TheVariants as store_faults
-use Rattle.bor_store_sql.specs.Shown.{ShowsIn}
 use Rattle.bor_store_reads.specs.declared.fault.ReadError.{ReadError}
 use Rattle.bor_store_reads.specs.Answering.{told_as, wants_memory}
 
@@ -26,8 +23,3 @@ store_fault_of error = if wants_memory error then store_faults.Memory else store
 abbrev pub tells_made : {X : Type 0} → Result X Error → Result X StoreFault
 tells_made (Ok x) = Ok x
 tells_made (Err error) = Err (store_fault_of error)
-
--- the number is the next one after so many filings, and the register is shown
-pub record IsNextFiling (number count : ℕ) (r : Register) (s : State) : Type 0 where
-  pub next : number ≡ count + 1
-  pub shown : ShowsIn r s

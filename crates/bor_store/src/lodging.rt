@@ -1,79 +1,50 @@
 //! The next filing of an agent.
 
-ghost use Rattle.std.specs.Prelude.{◌≡◌, ◌+◌, ◌<◌, true, length, IfOk, IfErr};
-ghost use Rattle.sqlite.specs.Held.{state};
-ghost use Rattle.bor_register.specs.Limits.{filings_limit};
-ghost use Rattle.bor_register.specs.Register.{Register, is_enrolled, filings_of};
-ghost use Rattle.bor_store_sql.specs.Shown.{Commits, IsClean, LeavesAtMost, ShowsIn, Stands};
-ghost use Rattle.bor_store_sql.specs.Changing.{added};
-ghost use Rattle.bor_store_reads.specs.Answering.{IsNoDamage, ReadsIn};
-ghost use Rattle.bor_store.specs.Telling.{IsNextFiling};
+ghost use Rattle.std.specs.Prelude.{◌≡◌, ◌+◌, All, IfOk};
+ghost use Rattle.bods_read.specs.Forms.{IsFormedStatement};
+ghost use Rattle.bor_store_sql.specs.Shown.{Alters};
+ghost use Rattle.bor_store_sql.specs.Changing.{MayAdd, added};
 
 use crate::forms::all_formed;
 use bods_read::Statement;
-use bor_store_reads::{ReadError, filing_count};
-use bor_store_sql::add_filing;
 use bor_store_sql::rows::FilingKey;
+use bor_store_sql::{add_filing, next_number};
 use bor_terms::{AgentName, Day, LodgeKey};
-use sqlite::{Alter, Connection};
+use sqlite::{Alter, Connection, Error, ErrorCode};
 use std::alloc::Global;
 
-// The number of the agent's next filing.
-fn next_number<S: Alter>(
-    conn: &mut Connection<S>,
-    alloc: Global,
-    agent: &AgentName,
-) -> Result<u32, ReadError>
-    ensures { ReadsIn S.Store conn.old conn.new result (λ r number.
-        number ≡ length (filings_of agent.now r.members) + 1) }
+// The key of the agent's filing behind so many.
+fn next_key(alloc: Global, agent: &AgentName, count: usize) -> Result<FilingKey, Error>
+    ensures { IfOk result (λ key. (key.agent ≡ agent.now) × (key.number ≡ count + 1)) }
 {
-    let count = filing_count(conn, alloc, agent)?;
     let Ok(last) = u32::try_from(count) else {
-        return Err(ReadError::Store);
+        return Err(Error::SqliteFailure(ErrorCode::TooBig));
     };
-    match last.checked_add(1) {
-        Some(number) => Ok(number),
-        None => Err(ReadError::Store),
+    let number = next_number(last)?;
+    match agent.copy(alloc) {
+        Ok(agent) => Ok(FilingKey { number, agent }),
+        Err(_) => Err(Error::SqliteFailure(ErrorCode::OutOfMemory)),
     }
 }
 
-/// Adds the agent's next filing, and gives its number. A connection with a transaction open is
+/// Adds the agent's next filing, behind `count` others. A connection with a transaction open is
 /// refused.
 pub(crate) fn add_next_filing<S: Alter>(
     conn: &mut Connection<S>,
     alloc: Global,
     agent: &AgentName,
+    count: usize,
     key: &LodgeKey,
     due: Day,
     bytes: &[u8],
     statements: &[Statement],
-) -> Result<u32, ReadError>
-    ensures commits { Commits (state S.Store conn.old) (state S.Store conn.new) result }
-    ensures made { IsClean (state S.Store conn.new) → (r : Register)
-        → ShowsIn r (state S.Store conn.old)
-        → is_enrolled agent.now r.members ≡ true
-        → length (filings_of agent.now r.members) < filings_limit
-        → IfOk result (λ number.
-        IsNextFiling number (length (filings_of agent.now r.members))
-        (added agent.now key.now due bytes.now statements.now r) (state S.Store conn.new)) }
-    ensures stops { LeavesAtMost (λ trees. (r : Register) → ShowsIn r (state S.Store conn.old)
-        → is_enrolled agent.now r.members ≡ true
-        → length (filings_of agent.now r.members) < filings_limit
-        → Stands (added agent.now key.now due bytes.now statements.now r) trees)
-        (state S.Store conn.old) (state S.Store conn.new) }
-    ensures undamaged { IsClean (state S.Store conn.new) → (r : Register)
-        → ShowsIn r (state S.Store conn.old) → IfErr result IsNoDamage }
+) -> Result<(), Error>
+    ensures formed { All IsFormedStatement statements.now }
+    ensures altered { Alters S.Store conn.old conn.new result
+        (MayAdd agent.now (count + 1) statements.now)
+        (added agent.now key.now due bytes.now statements.now) }
 {
-    let name = agent.copy(alloc)?;
-    let number = next_number(conn, alloc, agent)?;
     all_formed(statements);
-    let filing = FilingKey {
-        number,
-        agent: name,
-    };
-    let made = add_filing(conn, filing, key, due, bytes, statements);
-    match made {
-        Ok(()) => Ok(number),
-        Err(error) => Err(ReadError::from(error)),
-    }
+    let filing = next_key(alloc, agent, count)?;
+    add_filing(conn, filing, key, due, bytes, statements)
 }

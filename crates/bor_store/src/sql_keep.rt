@@ -250,21 +250,23 @@ impl<S: Alter + Drop> Keep for SqlKeep<S> {
     fn add_filing(
         &mut self,
         agent: &AgentName,
+        count: usize,
         key: &LodgeKey,
         due: Day,
         bytes: &[u8],
         statements: &[Statement],
-    ) -> Result<u32, StoreFault> {
+    ) -> Result<(), StoreFault> {
         let made = add_next_filing(
             self.conn.connection(),
             self.alloc,
             agent,
+            count,
             key,
             due,
             bytes,
             statements,
         );
-        self.told(made)
+        self.made(made)
     }
 
     fn withdraw(&mut self, agent: &AgentName, number: u32) -> Result<(), StoreFault> {
