@@ -16,8 +16,8 @@
 //! ```
 //!
 //! [`check_text`], [`report_text`] and [`evidence_text`] give what `bor check` and `bor report`
-//! print. What is done to a register on the way stands in [`operations`], and a keep with a register in
-//! memory beside it in [`mirror`].
+//! print. What is done to a register on the way stands in [`operations`], and a keep with a
+//! register in memory beside it in [`mirror`].
 //!
 //! Nothing is read or printed here, and no HTTP is known of: requests come in as values, and
 //! replies go out as values or as bytes of a text.

@@ -11,11 +11,11 @@ ghost use Rattle.bor_store.specs.Telling.{tells, tells_made, store_fault_of};
 
 use crate::lodging::add_next_filing;
 use bods_read::{Identifier, Statement};
-use bor_register::memory::ListKeep;
 use bor_desk::mirror::MirrorStore;
 use bor_records::links::{Link, Node, NodeInfo};
 use bor_records::{Last, Row};
 use bor_register::keeping::Keep;
+use bor_register::memory::ListKeep;
 use bor_register::{AgentLine, Caller, Filing, FilingLine, Outward, StoreFault};
 use bor_store_keys::{
     Lookup, read_aliases, read_identified, read_links_into, read_node, read_open_row, read_same,
