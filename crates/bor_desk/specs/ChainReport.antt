@@ -64,7 +64,7 @@ pub record IsReportOn (shown : Shown) (entity : Node) (day : ℤ) (text : Text) 
 abbrev pub key_part : Node → List ℕ
 key_part n = 9 ∷ n.agent ++ 9 ∷ n.declaration ++ 9 ∷ n.rec
 
--- the line of a person up to what is shown of it
+-- the line of a person without its end
 abbrev pub person_part : Node → ℕ → PersonInfo → List ℕ
 person_part n links info =
     codes "person" ++ key_part n ++ 9 ∷ decimal links ++ 9 ∷ compact_text (name_data info.name)

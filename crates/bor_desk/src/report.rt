@@ -51,7 +51,7 @@ fn name_text(alloc: Global, name: &Option<FreeText>) -> Result<String, AllocErro
     value.to_string(alloc)
 }
 
-/// Adds what stands in the line of a person, up to what is shown of it.
+/// Adds what stands in the line of a person, but for its end.
 pub(crate) fn person_text(
     alloc: Global,
     text: &mut String,

@@ -20,7 +20,7 @@ fn filing_with<'a>(filings: &'a [AcceptedFiling], key: &LodgeKey) -> Option<&'a 
 }
 
 /// The filing under a key as its agent reads it.
-pub fn filing_under(
+pub(crate) fn filing_under(
     alloc: Global,
     filings: &[AcceptedFiling],
     key: &LodgeKey,
@@ -35,7 +35,7 @@ pub fn filing_under(
 }
 
 /// The line of the filing under a key.
-pub fn line_under(
+pub(crate) fn line_under(
     alloc: Global,
     filings: &[AcceptedFiling],
     key: &LodgeKey,
@@ -61,7 +61,7 @@ pub fn is_filed(filings: &[AcceptedFiling], key: &LodgeKey, bytes: &[u8]) -> boo
 }
 
 /// The lines of an agent's filings on a day, in order of acceptance.
-pub fn all_lines(
+pub(crate) fn all_lines(
     alloc: Global,
     filings: &[AcceptedFiling],
     day: Day,

@@ -13,10 +13,10 @@
 //! assert_eq!(rt; all_published(alloc, &members, tomorrow)?.len(), 1);
 //! ```
 //!
-//! Each keep of members calls the functions here on them, wherever it gets them from: who has a
-//! token ([`caller_with`]), filings and their lines, the rows that a viewer sees, what is published,
-//! and how much of it each agent has ([`all_agents`]). What a keep of a register promises stands in
-//! [`keeping`], and one in memory in [`memory`].
+//! What is asked of members stands here, for whatever keeps them: the rows that a viewer sees
+//! ([`rows_seen`]), what is published ([`all_published`]), and how much of it each agent has
+//! ([`all_agents`]). What a keep of a register promises stands in [`keeping`], and one in memory in
+//! [`memory`].
 #![tactic(auto)]
 
 mod agents;
@@ -38,12 +38,14 @@ pub use agents::{AgentLine, all_agents};
 pub use caller::Caller;
 pub use fault::StoreFault;
 pub use filing::{AcceptedFiling, Filing, FilingLine, Outward, State};
-pub use filings::{all_lines, filing_under, is_filed, line_under};
+pub use filings::is_filed;
+pub(crate) use filings::{all_lines, filing_under, line_under};
 pub use held::statement_count;
 pub use member::{
-    FILINGS_LIMIT, Member, caller_with, enrol_member, is_enrolled, own_filings, push_filing,
-    renew_token, withdraw_of,
+    FILINGS_LIMIT, Member, enrol_member, is_enrolled, own_filings, push_filing, withdraw_of,
 };
+pub(crate) use member::{caller_with, renew_token};
 pub use publication::all_published;
-pub use rows::{all_visible, row_of, rows_seen};
+pub(crate) use rows::row_of;
+pub use rows::{all_visible, rows_seen};
 pub use statements::known;

@@ -51,7 +51,7 @@ pub fn is_enrolled(members: &[Member], name: &AgentName) -> bool
 }
 
 /// The agent that has the token, as a caller.
-pub fn caller_with(
+pub(crate) fn caller_with(
     alloc: Global,
     members: &[Member],
     token: &Token,
@@ -151,7 +151,7 @@ pub fn withdraw_of(alloc: Global, members: &mut [Member], name: &AgentName, numb
 
 /// Gives the agent, where there is one, another token.
 #[tactic(auto, using(crate::proofs::Members::with_token_absent))]
-pub fn renew_token(
+pub(crate) fn renew_token(
     alloc: Global,
     members: &mut [Member],
     name: &AgentName,

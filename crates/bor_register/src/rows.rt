@@ -11,7 +11,7 @@ use bor_terms::{AgentName, Day, Ident};
 use std::alloc::{AllocError, Global};
 
 /// The row of an agent's statement, which stands at this place of the filing, counted from 1.
-pub fn row_of(
+pub(crate) fn row_of(
     alloc: Global,
     agent: &AgentName,
     filing: u32,

@@ -14,7 +14,7 @@ use sqlite::{Alter, Connection, Error, ErrorCode};
 use std::alloc::Global;
 
 // The key of the agent's filing behind so many.
-fn next_key(alloc: Global, agent: &AgentName, count: usize) -> Result<FilingKey, Error>
+fn next_filing(alloc: Global, agent: &AgentName, count: usize) -> Result<FilingKey, Error>
     ensures { IfOk result (λ key. (key.agent ≡ agent.now) × (key.number ≡ count + 1)) }
 {
     let Ok(last) = u32::try_from(count) else {
@@ -45,6 +45,6 @@ pub(crate) fn add_next_filing<S: Alter>(
         (added agent.now key.now due bytes.now statements.now) }
 {
     all_formed(statements);
-    let filing = next_key(alloc, agent, count)?;
+    let filing = next_filing(alloc, agent, count)?;
     add_filing(conn, filing, key, due, bytes, statements)
 }

@@ -12,7 +12,8 @@ ghost use Rattle.bor_desk.specs.Operations.Outcomes.{Accounts, store_fault};
 
 use crate::operations::{Keep, StoreFault};
 use bor_chains::Node;
-use bor_records::links::{OpenNode, Sign, Values, node_of, note, signs_of};
+use bor_records::links::values::{self, Values};
+use bor_records::links::{OpenNode, Sign, node_of, signs_of};
 use bor_terms::{AgentName, Day};
 use std::alloc::{AllocError, Global};
 use std::collections::BTreeMap;
@@ -76,7 +77,7 @@ impl Kin {
             → AreKin s (nodes ++ one.now.node ∷ []) NoneFound self.new) }
     {
         let keys = signs_of(alloc, one)?;
-        note(alloc, &mut self.signed, keys, &one.node)?;
+        values::note(alloc, &mut self.signed, keys, &one.node)?;
         let signs = signs_of(alloc, one)?;
         self.signs.insert(one.node.copy(alloc)?, signs)?;
         Ok(())

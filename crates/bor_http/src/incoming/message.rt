@@ -1,4 +1,4 @@
-//! The message that bytes are: its head, taken apart, and its body.
+//! The message that bytes are: its head, taken apart, and its body; and bytes split at one of them.
 
 ghost use Rattle.std.specs.Prelude.{◌≡◌, ◌≤◌, IfOk};
 ghost use Rattle.std.specs.Option.{option_map};

@@ -19,7 +19,7 @@ fn matched(router: &Router<Path>, text: &str) -> Option<Path>
     }
 }
 
-// Adds the path of a line. One that has several methods, and so several lines, is added once.
+// Adds the path of a line, unless the router finds it already: a path has a line for each method.
 fn add(router: &mut Router<Path>, path: Path) -> Result<(), InsertError>
     ensures { OnOk result (router.new ≡ with_path router.old path) }
 {

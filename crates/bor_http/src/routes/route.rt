@@ -36,7 +36,8 @@ pub enum Route {
     Register,
 }
 
-// The table of routes, in the order of [`Route`]: the path and the method that each is asked for by.
+/// The table of routes, in the order of [`Route`]: the path and the method that each is asked for
+/// by.
 pub(super) const ROUTES: [(Path, &str, Route); 13] = [
     (Path::Filing, "PUT", Route::Lodge),
     (Path::Filing, "DELETE", Route::Withdraw),

@@ -1,4 +1,4 @@
-//! How long a client is waited for.
+//! The time that a client has for each phase.
 
 ghost use Rattle.std.specs.Prelude.{◌≡◌};
 ghost use Rattle.std.specs.Duration.{as_nanos};

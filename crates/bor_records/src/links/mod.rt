@@ -22,8 +22,7 @@
 //! that stand for one entity, [`aliases`] those that are one step away, and [`identified`] the
 //! entities of an identifier.
 //!
-//! A map from a key to all that stand under it, as from a sign to its entities, has [`Values`]:
-//! [`put`] and [`note`] add to it, and [`under`] looks a key up.
+//! Maps with several values under a key, as from a sign to its entities, stand in [`values`].
 //!
 //! Left out: how links are followed, and who may see which rows.
 
@@ -35,7 +34,7 @@ mod rows;
 mod search;
 mod sign;
 mod stake;
-mod values;
+pub mod values;
 
 pub use class::{Class, once};
 pub use node::{Link, Node, NodeInfo, OpenNode, PersonInfo};
@@ -44,4 +43,3 @@ pub use rows::{info_stated, node_of, record_of};
 pub use search::{aliases, identified, same};
 pub use sign::{Sign, push_signs, signs_of};
 pub use stake::{holding_of, stake_of};
-pub use values::{Values, note, put, under};

@@ -97,8 +97,8 @@ impl PersonInfo {
         }
     }
 
-    /// Another copy of the information.
-    pub fn copy(&self, alloc: Global) -> Result<PersonInfo, AllocError>
+    // Another copy of the information.
+    fn copy(&self, alloc: Global) -> Result<PersonInfo, AllocError>
         ensures { IfOk result (λ copied. copied ≡ self.now) }
     {
         PersonInfo::named(alloc, &self.name)

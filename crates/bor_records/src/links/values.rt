@@ -22,8 +22,8 @@ pub enum Values<T> {
 }
 
 impl<T: Drop> Values<T> {
-    /// All of them. A slice asks for a type whose values fit in memory, as all types here are.
-    pub fn as_slice(&self) -> &[T]
+    // All of them. A slice asks for a type whose values fit in memory, as all types here are.
+    fn as_slice(&self) -> &[T]
         requires { FitsInMemory T.row }
         ensures { result.now ≡ values_in self.now }
     {
@@ -33,8 +33,8 @@ impl<T: Drop> Values<T> {
         }
     }
 
-    /// These values and one behind them.
-    pub fn with(self, alloc: Global, value: T) -> Result<Values<T>, AllocError>
+    // These values and one behind them.
+    fn with(self, alloc: Global, value: T) -> Result<Values<T>, AllocError>
         ensures { IfOk result (λ values. values_in values ≡ values_in self ++ value ∷ []) }
     {
         match self {

@@ -13,7 +13,7 @@
 //!
 //! A keep does what it is asked and tests nothing of it: `bor_desk::operations`, which hands this
 //! on, says which lodging, which withdrawal and which day may be. The register in memory is
-//! `bor_register::memory::ListKeep`.
+//! [`ListKeep`](crate::memory::ListKeep).
 
 mod keep;
 

@@ -11,7 +11,8 @@ ghost use Rattle.bor_register.specs.Memory.Indexed.{AreNoted, IsGrown, IsIndex, 
 ghost use Rattle.bor_register.specs.Memory.Sited.{places_from};
 
 use bods_read::{Details, Statement};
-use bor_records::links::{Node, Sign, Values, note, push_signs, put, under};
+use bor_records::links::values::{self, Values};
+use bor_records::links::{Node, Sign, push_signs};
 use bor_terms::{AgentName, Ident};
 use std::alloc::{AllocError, Global};
 use std::collections::BTreeMap;
@@ -88,28 +89,28 @@ impl Index {
     pub(crate) fn places_of(&self, node: &Node) -> &[Place]
         ensures { result.now ≡ under node_cmp self.now.series node.now }
     {
-        under(&self.series, node)
+        values::under(&self.series, node)
     }
 
     /// The places of the statements with an identifier.
     pub(crate) fn places_named(&self, key: &StatementKey) -> &[Place]
         ensures { result.now ≡ under key_cmp self.now.named key.now }
     {
-        under(&self.named, key)
+        values::under(&self.named, key)
     }
 
     /// The relationships that have named a record as their subject, some maybe more than once.
     pub(crate) fn naming(&self, subject: &Node) -> &[Node]
         ensures { result.now ≡ under node_cmp self.now.naming subject.now }
     {
-        under(&self.naming, subject)
+        values::under(&self.naming, subject)
     }
 
     /// The entities that have had a sign, some maybe more than once.
     pub(crate) fn signed(&self, sign: &Sign) -> &[Node]
         ensures { result.now ≡ under sign_cmp self.now.signed sign.now }
     {
-        under(&self.signed, sign)
+        values::under(&self.signed, sign)
     }
 }
 
@@ -155,7 +156,7 @@ fn add_series(
 {
     for (i, statement) in statements.iter().enumerate() {
         let key = record_of(alloc, agent, statement)?;
-        put(
+        values::put(
             alloc,
             series,
             key,
@@ -185,7 +186,7 @@ fn add_named(
             id: statement.id.copy(alloc)?,
             agent: agent.copy(alloc)?,
         };
-        put(
+        values::put(
             alloc,
             named,
             key,
@@ -231,7 +232,7 @@ fn add_naming(
     for statement in statements {
         let keys = subjects_of(alloc, agent, statement)?;
         let node = record_of(alloc, agent, statement)?;
-        note(alloc, naming, keys, &node)?;
+        values::note(alloc, naming, keys, &node)?;
     }
     Ok(())
 }
@@ -267,7 +268,7 @@ fn add_signed(
     for statement in statements {
         let keys = signs_of(alloc, agent, statement)?;
         let node = record_of(alloc, agent, statement)?;
-        note(alloc, signed, keys, &node)?;
+        values::note(alloc, signed, keys, &node)?;
     }
     Ok(())
 }

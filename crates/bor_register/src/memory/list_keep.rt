@@ -596,6 +596,7 @@ impl Keep for ListKeep {
     fn add_filing(
         &mut self,
         agent: &AgentName,
+        // The number is one more than there are filings: it isn't asked for.
         _count: usize,
         key: &LodgeKey,
         due: Day,
