@@ -106,7 +106,7 @@ fn accepted_filing(
     })
 }
 
-/// Adds a filing to those of an agent, who is enrolled and has room for one more, and gives its
+/// Adds a filing to those of an agent, who is enrolled and has room for one more, under the next
 /// number.
 pub fn push_filing(
     alloc: Global,
@@ -116,14 +116,12 @@ pub fn push_filing(
     due: Day,
     bytes: &[u8],
     statements: &[Statement],
-) -> Result<u32, AllocError>
+) -> Result<(), AllocError>
     requires enrolled { is_enrolled name.now members.old ≡ true }
     requires room { length (filings_of name.now members.old) < filings_limit }
-    ensures ok { IfOk result (λ number. let own = filings_of name.now members.old in
-        (number ≡ length own + 1)
-        × (members.new
+    ensures ok { OnOk result (let own = filings_of name.now members.old in members.new
         ≡ with_filings name.now (own ++ accepted own key.now due bytes.now statements.now ∷ [])
-        members.old)) }
+        members.old) }
     ensures err { OnErr result (members.new ≡ members.old) }
 {
     let Some(at) = position(members, name) else {
@@ -132,8 +130,7 @@ pub fn push_filing(
     let member = &mut members[at];
     let number = member.filings.as_slice().len() as u32 + 1;
     let filing = accepted_filing(alloc, number, key, due, bytes, statements)?;
-    member.filings.push(filing)?;
-    Ok(number)
+    Ok(member.filings.push(filing)?)
 }
 
 /// Withdraws the agent's filing with this number, where there is one. It takes no memory.

@@ -618,7 +618,7 @@ impl Keep for ListKeep {
             bytes,
             statements,
         ) {
-            Ok(_) => {
+            Ok(()) => {
                 self.index = Some(index);
                 Ok(())
             }

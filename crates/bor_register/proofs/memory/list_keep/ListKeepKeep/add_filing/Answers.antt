@@ -29,7 +29,7 @@ invariant_of-self c =
     let filing = accepted (filings_of agent before) c.args.key.now c.args.due c.args.bytes.now c.args.statements.now in
     let own = filings_of agent before ++ filing ∷ [] in
     let is : c.push_filing.new.members ≡ with_filings agent own before =
-    c.in-Ok-push_filing.ensures.ok.1 ∙ ap (λ (ms : List Member). with_filings agent (filings_of agent ms ++ accepted (filings_of agent ms) c.args.key.now c.args.due c.args.bytes.now c.args.statements.now ∷ []) ms) (c.deref_mut.ensures.value ∙ then) in
+    c.in-Ok-push_filing.ensures.ok ∙ ap (λ (ms : List Member). with_filings agent (filings_of agent ms ++ accepted (filings_of agent ms) c.args.key.now c.args.due c.args.bytes.now c.args.statements.now ∷ []) ms) (c.deref_mut.ensures.value ∙ then) in
     let long : length c.self.inside.members.items ≡ c.self.inside.members.len = omega arith in
     let now = written c.push_filing.new.members c.self.inside.members.items c.self.inside.members.len
     (ap (λ (ms : List Member). length ms) is ∙ long-with_filings agent own before ∙ ap (λ (ms : List Member). length ms) (sym then) ∙ long) ∙ is in
