@@ -21,8 +21,9 @@ use Rattle.bor_records.specs.Links.Nodes.{same_node, node_cmp, link_record}
 use Rattle.bor_records.specs.Links.Orders.{node_equiv, node_ties}
 use Rattle.bor_records.specs.Links.Shown.{Shown, listed_at, info_in}
 use Rattle.bor_records.specs.Links.Stakes.{is_stake, is_holding}
-use Rattle.bor_records.specs.Links.Rows.{is_entity_info, is_some_info, beside, link_in, link_with}
+use Rattle.bor_records.specs.Links.Rows.{is_entity_info, is_some_info, link_in, link_with}
 use Rattle.bor_records.specs.Links.Answers.{AreLinksInto, only_into}
+use Rattle.bor_records.specs.Links.Candidates.{beside}
 use Rattle.bor_chains.specs.Tables.{node_at_place, items_of, items_at, GrowAt, ArePlaces, AreInto, IsBelow, links_at}
 use Rattle.bor_records.proofs.OnLinks.Found.{none, Contains-filter_map, Contains-from_filter_map}
 use Rattle.bor_records.proofs.OnLinks.Once.{made_distinct}

@@ -18,7 +18,8 @@ use Rattle.bor_records.specs.Links.Series.{series_of, is_of, open_at}
 use Rattle.bor_records.specs.Links.Shown.{Shown, info_in, info_of, listed_at}
 use Rattle.bor_records.specs.Links.Aliases.{Alias, IsAliasPath, Same}
 use Rattle.bor_records.specs.Links.Stakes.{is_stake, is_holding, is_voting_majority, is_board_majority, is_membership}
-use Rattle.bor_records.specs.Links.Rows.{node_in, node_with, nodes_of, is_entity_info, is_some_info, beside, link_with, link_in, shown_of}
+use Rattle.bor_records.specs.Links.Rows.{node_in, node_with, nodes_of, is_entity_info, is_some_info, link_with, link_in, shown_of}
+use Rattle.bor_records.specs.Links.Candidates.{beside}
 use Rattle.bor_records.proofs.Lists.{none_pass}
 use Rattle.bor_records.proofs.Rows.{last_or-push}
 use Rattle.bor_records.proofs.OnLinks.SameNode.{same_node_is}

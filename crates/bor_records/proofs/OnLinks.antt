@@ -22,3 +22,4 @@ pub mod ByRecord
 pub mod Linking
 pub mod Aliasing
 pub mod Identifying
+pub mod Stated

@@ -6,6 +6,7 @@ pub mod Shown
 pub mod Aliases
 pub mod Rows
 pub mod Answers
+pub mod Relationships
 pub mod ByKey
 pub mod Laws
 pub mod Signs

@@ -3,6 +3,5 @@ pub mod SeriesSeen
 pub mod OpenAt
 pub mod Placing
 pub mod Told
-pub mod Infos
 pub mod Recording
 pub mod Signing

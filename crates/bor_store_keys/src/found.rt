@@ -134,7 +134,7 @@ impl Found {
 
     /// The data that a chain needs of the node that a record makes. `None` where it wasn't read
     /// yet, `Some(None)` where the record makes no open node.
-    #[tactic(auto, using(crate::proofs::Infos::info_closed))]
+    #[tactic(auto, using(bor_records::proofs::OnLinks::Stated::row_closed))]
     pub(crate) fn info(
         &self,
         alloc: Global,

@@ -14,7 +14,6 @@ mod found;
 mod identified;
 mod latest;
 mod links;
-mod list;
 mod listed;
 mod lookup;
 mod nodes;

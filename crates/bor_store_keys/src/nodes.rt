@@ -1,9 +1,9 @@
 //! A record as a node.
 
-ghost use Rattle.std.specs.Prelude.{◌≡◌, false, IfOk, option_and_then, option_map};
+ghost use Rattle.std.specs.Prelude.{◌≡◌, IfOk, option_and_then, option_map};
 ghost use Rattle.sqlite.specs.Held.{state};
 ghost use Rattle.bor_records.specs.Links.ByKey.{node_at};
-ghost use Rattle.bor_records.specs.Links.Rows.{is_entity_info, is_some_info, node_in};
+ghost use Rattle.bor_records.specs.Links.Rows.{is_some_info, node_in};
 ghost use Rattle.bor_records.specs.Links.Series.{open_at};
 ghost use Rattle.bor_records.specs.Links.Shown.{entity_identifiers, identifiers_in, info_of};
 ghost use Rattle.bor_register.specs.Seen.{seen_at};
@@ -138,22 +138,6 @@ fn info_in<S: Alter + Drop>(
     match lookup.info(alloc, view, node)? {
         Some(info) => Ok(info),
         None => info_read(lookup, alloc, view, node),
-    }
-}
-
-/// Whether the record is an open entity.
-pub(crate) fn is_entity<S: Alter + Drop>(
-    lookup: &mut Lookup<S>,
-    alloc: Global,
-    view: &View,
-    node: &Node,
-) -> Result<bool, ReadError>
-    ensures { ReadsIn S.Store lookup.old lookup.new result (λ r is.
-        is ≡ is_entity_info (info_of (seen view.now r) node.now)) }
-{
-    match info_in(lookup, alloc, view, node)? {
-        Some(info) => Ok(info.is_entity()),
-        None => Ok(false),
     }
 }
 

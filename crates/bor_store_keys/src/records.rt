@@ -1,17 +1,15 @@
 //! The records of statements that are found by what they name.
 
 ghost use Rattle.std.specs.Prelude.{◌≡◌, IfOk, map};
-ghost use Rattle.std.specs.List.{filter_map, IsDistinct};
-ghost use Rattle.bor_records.specs.Links.Nodes.{same_node};
+ghost use Rattle.std.specs.List.{filter_map};
 ghost use Rattle.bor_store_sql.specs.Rows.Placed.{placed};
 ghost use Rattle.bor_store_sql.specs.Selected.{in_record, placed_of, with_subject};
 ghost use Rattle.bor_store_reads.specs.Answering.{ReadsIn};
 ghost use Rattle.bor_store_keys.specs.Recorded.{CoverRecords, record_at};
 ghost use Rattle.bor_store_keys.specs.Signed.{record_standing, with_identifier, with_sign};
 
-use crate::list::push_some;
 use crate::lookup::Lookup;
-use bor_records::links::{Node, Sign, once};
+use bor_records::links::{Node, Sign, once, push_some};
 use bor_store_reads::ReadError;
 use bor_store_sql::rows::{At, IdentifierRow, StatementRow};
 use sqlite::Alter;
@@ -35,21 +33,19 @@ fn records_at(alloc: Global, rows: Vec<StatementRow>) -> Result<Vec<Node>, Alloc
     rows.into_iter().map(|row| record_at(row)).collect(alloc)
 }
 
-/// The records of the statements that name this record as their subject, each once.
+/// The records of the statements that name this record as their subject, some maybe more than once.
 pub(crate) fn records_into<S: Alter + Drop>(
     lookup: &mut Lookup<S>,
     alloc: Global,
     node: &Node,
 ) -> Result<Vec<Node>, ReadError>
-    ensures covers { ReadsIn S.Store lookup.old lookup.new result (λ r records.
+    ensures { ReadsIn S.Store lookup.old lookup.new result (λ r records.
         CoverRecords
         (with_subject node.now.declaration node.now.rec
         (placed_of node.now.agent r)) records.items) }
-    ensures once { IfOk result (λ records. IsDistinct same_node records.items) }
 {
     let rows = lookup.naming(alloc, node)?;
-    let records = records_at(alloc, rows)?;
-    Ok(once(records)?)
+    Ok(records_at(alloc, rows)?)
 }
 
 // The record of the statement at this place, as the tables have it.

@@ -1,13 +1,14 @@
 //! What a viewer sees over a connection, as records that are read by key.
 
-ghost use Rattle.bor_store_keys.specs.Viewed.{Viewing, shown_in};
+ghost use Rattle.bor_store_keys.specs.Viewed.{Viewing, rows_on, shown_in};
 
+use crate::links::stated_link;
 use crate::lookup::Lookup;
-use crate::nodes::identifiers_in;
-use crate::records::records_with;
+use crate::nodes::{identifiers_in, is_node};
+use crate::records::{records_into, records_with};
 use crate::view::View;
 use bods_read::Identifier;
-use bor_records::links::{Node, Records, Sign};
+use bor_records::links::{Link, Node, Records, Relationships, Sign};
 use bor_store_reads::ReadError;
 use sqlite::Alter;
 use std::alloc::Global;
@@ -72,4 +73,22 @@ impl<'a, S: Alter + Drop> Records for Seen<'a, S> {
 
     ghost tells_memory = { λ error fault gives.
         subst IsNoDamage (sym gives) (λ same. let no = same in Prim.cc) };
+}
+
+impl<'a, S: Alter + Drop> Relationships for Seen<'a, S> {
+    ghost use Rattle.std.specs.Prelude.{refl};
+
+    fn naming(&mut self, subject: &Node) -> Result<Vec<Node>, ReadError> {
+        records_into(self.lookup, self.alloc, subject)
+    }
+
+    fn stated(&mut self, subject: &Node, rec: &Node) -> Result<Option<Link>, ReadError> {
+        stated_link(self.lookup, self.alloc, self.view, subject, rec)
+    }
+
+    fn is_open(&mut self, node: &Node) -> Result<bool, ReadError> {
+        is_node(self.lookup, self.alloc, self.view, node)
+    }
+
+    ghost of_rows = { λ m. (rows_on m.view m.register, refl) };
 }

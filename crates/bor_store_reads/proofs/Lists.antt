@@ -1,7 +1,8 @@
 -- Lists, and what holds of all their elements.
-use Rattle.std.proofs.Common.{◌≡◌, ◌<◌, ◌≤◌, ◌+◌, ◌∙◌, ℕ, List, [], ◌∷◌, ◌++◌, append-nil, append_assoc, drop, get_or, length, map, take, reverse, ap, sym, subst}
-use Rattle.std.proofs.lemmas.List.{at_drop_all, at_drop_more, reverse-append}
+use Rattle.std.proofs.Common.{◌≡◌, ◌<◌, ◌+◌, ◌∙◌, ℕ, List, [], ◌∷◌, ◌++◌, append_assoc, drop, get_or, length, map, take, reverse, ap, sym, subst}
+use Rattle.std.proofs.lemmas.List.{at_drop_more, reverse-append}
 use Rattle.std.specs.List.{flat_map}
+pub use Rattle.bor_records.proofs.OnLinks.Linking.{all_done}
 use Rattle.std.specs.Prelude.{All}
 use Rattle.std.proofs.lemmas.List.Elements.{All-nil, All-cons, All-head, All-tail, All-append, All-take}
 
@@ -17,10 +18,6 @@ all_turned P (x ∷ xs) h =
 -- the last of them, alone
 pub all_taken : {X : Type 0} (P : X → Type 0) (xs : List X) → All P xs → All P (take 1 (reverse xs))
 all_taken P xs h = All-take P 1 (reverse xs) (all_turned P xs h)
-
--- nothing is left of a list
-pub all_done : {X Y : Type 0} (F : List X → List Y) → F [] ≡ [] → (done all : List Y) (xs : List X) (i : ℕ) → length xs ≤ i → done ++ F (drop i xs) ≡ all → done ≡ all
-all_done F nothing done all xs i end is = sym (append-nil done) ∙ ap (λ l. done ++ l) (sym (at_drop_all F xs i end ∙ nothing)) ∙ is
 
 -- one more of a list has given its own
 pub more_done : {X Y : Type 0} (f : X → List Y) (xs : List X) (i : ℕ) (x : X) (own done more all : List Y) → i < length xs → x ≡ get_or xs i x → own ≡ f x → more ≡ done ++ own → done ++ flat_map f (drop i xs) ≡ all → more ++ flat_map f (drop (i + 1) xs) ≡ all

@@ -21,7 +21,8 @@ use Rattle.bor_records.specs.Links.Shown.{info_in, info_of, listed_at}
 use Rattle.bor_records.specs.Links.Aliases.{IsAliasPath}
 use Rattle.bor_records.specs.Links.Series.{open_at}
 use Rattle.bor_records.specs.Links.Stakes.{is_stake, is_holding}
-use Rattle.bor_records.specs.Links.Rows.{beside, is_entity_info, is_some_info, link_in, link_with, links_of, node_in, nodes_of, shown_of}
+use Rattle.bor_records.specs.Links.Rows.{is_entity_info, is_some_info, link_in, link_with, links_of, node_in, nodes_of, shown_of}
+use Rattle.bor_records.specs.Links.Candidates.{beside}
 use Rattle.bor_records.proofs.OnLinks.ByKey.{listed_by_key, open_at_in, open_row_at}
 use Rattle.bor_records.proofs.OnLinks.Found.{none, here, there, cases, Contains-from_filter_map, Contains-map, Contains-from_map}
 use Rattle.bor_records.proofs.OnLinks.OfRows.{links_of_rows}

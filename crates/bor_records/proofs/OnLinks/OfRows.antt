@@ -13,12 +13,25 @@ use Rattle.bor_records.specs.declared.links.node.Link.{Link}
 use Rattle.bor_records.specs.Links.Nodes.{same_node, link_record}
 use Rattle.bor_records.specs.Links.Series.{series_of, open_at}
 use Rattle.bor_records.specs.Links.Shown.{info_in}
-use Rattle.bor_records.specs.Links.Rows.{is_entity_info, is_some_info, beside, link_between, link_with, link_in, nodes_of}
+use Rattle.bor_records.specs.Links.Stakes.{is_holding, is_stake}
+use Rattle.bor_records.specs.Links.Rows.{between_open, is_entity_info, is_some_info, link_in, link_with, nodes_of}
 use Rattle.bor_records.specs.Links.Laws.{LinksAreOfRows, LinksAreKnownByRecord, LinksAreDistinct}
+use Rattle.bor_records.specs.Links.Candidates.{beside}
 use Rattle.bor_records.proofs.OnLinks.Found.{Contains-from_filter_map}
 use Rattle.bor_records.proofs.OnLinks.ByKey.{open_row_at}
 use Rattle.bor_records.proofs.OnLinks.Once.{made_distinct}
 use Rattle.bor_records.proofs.OnLinks.Series.{same_series, rows_distinct}
+
+-- a link of a record on a day between two records, where these are open
+abbrev pub link_between : ℤ → List OpenNode → List ℕ → Node → Node → List Interest → Option Link
+link_between day nodes rec party subject interests =
+    between_open nodes (Some (record {
+      rec = rec;
+      party = party;
+      subject = subject;
+      stake = is_stake day interests;
+      holding = is_holding day interests;
+    }))
 
 -- the ends of a link and its record are beside the row
 record IsBeside (r : Row) (l : Link) : Type 0 where

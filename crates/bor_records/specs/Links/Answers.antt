@@ -46,7 +46,7 @@ pub record AreLinksInto (s : Shown) (n : Node) (links : List Link) : Type 0 wher
 abbrev pub AreDistinct : List OpenNode → Type 0
 AreDistinct nodes = IsDistinct same_node (map (λ x. x.node) nodes)
 
--- ---- for clauses of private functions alone
+-- ---- of one link
 
 -- a link, where it is into the node
 abbrev pub only_into : Node → Option Link → Option Link

@@ -1,5 +1,4 @@
--- The results of candidates: links into a node, and nodes that have a sign; for clauses of private
--- functions alone.
+-- What the rows of candidates name and state of links, and which candidates have a sign.
 use Rattle.std.specs.Prelude.{◌≡◌, ℕ, ℤ, List, Contains, Bool, false, ◌&&◌, Option, Some}
 use Rattle.std.specs.Prelude.{None, option_and_then}
 use Rattle.bor_terms.specs.Texts.{is_same}
@@ -9,11 +8,11 @@ use Rattle.bods_read.specs.declared.statement.Statement.{Statement}
 use Rattle.bor_records.specs.declared.row.Row.{Row}
 use Rattle.bor_records.specs.declared.links.node.Node.{Node}
 use Rattle.bor_records.specs.declared.links.node.Link.{Link}
-use Rattle.bor_records.specs.Links.Series.{open_at}
+use Rattle.bor_records.specs.Links.Series.{open_at, series_of}
 use Rattle.bor_records.specs.Links.Shown.{Shown}
 use Rattle.bor_records.specs.declared.links.sign.Sign.{Sign}
 use Rattle.bor_records.specs.Links.Answers.{only_into}
-use Rattle.bor_records.specs.Links.Rows.{nodes_of, link_in}
+use Rattle.bor_records.specs.Links.Rows.{link_stated, named_by}
 use Rattle.bor_records.specs.Links.Signs.{signs_in}
 
 -- a relationship whose subject has the identifier
@@ -28,13 +27,14 @@ abbrev pub is_into : Node → List ℕ → Statement → Bool
 is_into n agent s =
     is_same agent n.agent && (is_same s.declaration n.declaration && names n.rec s.details)
 
--- the link into the node that a row makes, were it the latest of its series
-abbrev pub link_into : ℤ → List Row → Node → Row → Option Link
-link_into day rows n r = only_into n (link_in day (nodes_of day rows) r)
+-- a record of the row's own declaration
+abbrev pub beside : Row → List ℕ → Node
+beside r rec = named_by (series_of r) rec
 
--- the link into the node that a series makes
-abbrev pub link_at : ℤ → List Row → Node → Node → Option Link
-link_at day rows n k = option_and_then (link_into day rows n) (open_at day k rows)
+-- the link into the node that the open statement of a record states, whatever its ends are
+abbrev pub stated_at : ℤ → List Row → Node → Node → Option Link
+stated_at day rows n k =
+    only_into n (option_and_then (λ r. link_stated day k r.statement.details) (open_at day k rows))
 
 -- the candidate, where it is an open entity that has the sign
 abbrev pub IsFound : Shown → Sign → Node → Node → Type 0

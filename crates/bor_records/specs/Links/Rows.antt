@@ -6,7 +6,6 @@ use Rattle.bods_read.specs.declared.details.Details.{Details}
 use Rattle.bods_read.specs.declared.details.Details.TheVariants as details
 use Rattle.bods_read.specs.declared.details.EntityKind.{EntityKind}
 use Rattle.bods_read.specs.declared.details.EntityKind.TheVariants as kinds
-use Rattle.bods_read.specs.declared.interest.Interest.{Interest}
 use Rattle.bor_records.specs.declared.row.Row.{Row}
 use Rattle.bor_records.specs.declared.links.node.Node.{Node}
 use Rattle.bor_records.specs.declared.links.node.NodeInfo.{NodeInfo}
@@ -15,7 +14,7 @@ use Rattle.bor_records.specs.declared.links.node.OpenNode.{OpenNode}
 use Rattle.bor_records.specs.declared.links.node.PersonInfo.{PersonInfo}
 use Rattle.bor_records.specs.declared.links.node.Link.{Link}
 use Rattle.bor_records.specs.OpenRows.{open_rows}
-use Rattle.bor_records.specs.Links.Series.{stated}
+use Rattle.bor_records.specs.Links.Series.{series_of, stated}
 use Rattle.bor_records.specs.Links.Shown.{Shown, info_in, is_entity}
 use Rattle.bor_records.specs.Links.Stakes.{is_stake, is_holding}
 
@@ -64,32 +63,36 @@ abbrev pub is_some_info : Option NodeInfo → Bool
 is_some_info None = false
 is_some_info (Some info) = true
 
--- a record of the row's own declaration
-abbrev pub beside : Row → List ℕ → Node
-beside r rec = record { agent = r.agent; declaration = r.statement.declaration; rec = rec }
+-- another record of a record's declaration
+abbrev pub named_by : Node → List ℕ → Node
+named_by n rec = record { agent = n.agent; declaration = n.declaration; rec = rec }
 
--- a link of a record on a day, where the subject is an open entity and the party an open entity or
--- person
-abbrev pub link_between : ℤ → List OpenNode → List ℕ → Node → Node → List Interest → Option Link
-link_between day nodes rec party subject interests =
-    if is_entity_info (info_in nodes subject) && is_some_info (info_in nodes party)
-    then Some (record {
-      rec = rec;
-      party = party;
-      subject = subject;
+-- the link that the details of a record's statement state on a day, whatever its ends are; an end
+-- that names no record states none
+abbrev pub link_stated : ℤ → Node → Details → Option Link
+link_stated day n (details.Entity kind name identifiers) = None
+link_stated day n (details.Person kind name) = None
+link_stated day n (details.Relationship None party interests) = None
+link_stated day n (details.Relationship (Some subject) None interests) = None
+link_stated day n (details.Relationship (Some subject) (Some party) interests) =
+    Some (record {
+      rec = n.rec;
+      party = named_by n party;
+      subject = named_by n subject;
       stake = is_stake day interests;
       holding = is_holding day interests;
     })
-    else None
 
--- the link that a relationship's details make; an end that names no record makes none
+-- the link, where its subject is an open entity and its party an open entity or person
+abbrev pub between_open : List OpenNode → Option Link → Option Link
+between_open nodes None = None
+between_open nodes (Some l) =
+    if is_entity_info (info_in nodes l.subject) && is_some_info (info_in nodes l.party)
+    then Some l else None
+
+-- the link that a row's details make
 abbrev pub link_with : ℤ → List OpenNode → Row → Details → Option Link
-link_with day nodes r (details.Entity kind name identifiers) = None
-link_with day nodes r (details.Person kind name) = None
-link_with day nodes r (details.Relationship None party interests) = None
-link_with day nodes r (details.Relationship (Some subject) None interests) = None
-link_with day nodes r (details.Relationship (Some subject) (Some party) interests) =
-    link_between day nodes r.statement.rec (beside r party) (beside r subject) interests
+link_with day nodes r d = between_open nodes (link_stated day (series_of r) d)
 
 abbrev pub link_in : ℤ → List OpenNode → Row → Option Link
 link_in day nodes r = link_with day nodes r r.statement.details

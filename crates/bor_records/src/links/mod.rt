@@ -20,7 +20,8 @@
 //!
 //! Whatever holds records that can be read by key is [`Records`]. Over it, [`same`] finds all nodes
 //! that stand for one entity, [`aliases`] those that are one step away, and [`identified`] the
-//! entities of an identifier.
+//! entities of an identifier. Over [`Relationships`], [`links_into`] finds the links into a
+//! node. [`link_stated`] makes the link that a statement states.
 //!
 //! Maps with several values under a key, as from a sign to its entities, stand in [`values`].
 //!
@@ -28,8 +29,10 @@
 
 mod class;
 pub mod laws;
+mod list;
 mod node;
 mod records;
+mod relationships;
 mod rows;
 mod search;
 mod sign;
@@ -37,9 +40,11 @@ mod stake;
 pub mod values;
 
 pub use class::{Class, once};
+pub use list::push_some;
 pub use node::{Link, Node, NodeInfo, OpenNode, PersonInfo};
 pub use records::Records;
-pub use rows::{info_stated, node_of, record_of};
+pub use relationships::{Relationships, links_into};
+pub use rows::{info_stated, link_stated, node_of, record_of};
 pub use search::{aliases, identified, same};
 pub use sign::{Sign, push_signs, signs_of};
 pub use stake::{holding_of, stake_of};

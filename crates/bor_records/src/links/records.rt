@@ -15,7 +15,7 @@ use std::convert::AsSlice;
 /// Records of a register, as they stand for a viewer on a day, read by key. They may be in memory,
 /// or in tables over a connection that fails.
 ///
-/// What a state shows is a relation (`reading.shows`), and what is shown has open nodes (`shown`).
+/// What a state shows is a relation (`reading.shows`), and what is shown has open nodes and links (`shown`).
 /// A read that ends clean leaves what is shown. Then its answer is of that, and its fault is one
 /// that it may answer (`reading.may_tell`). What else a read leaves as it was, whoever implements
 /// this says (`reading.leads`, and `reading.lasts` where there is an answer), and reads one after
@@ -33,7 +33,7 @@ pub trait Records {
     /// What a state shows.
     ghost Content: { Type 0 };
 
-    /// The open nodes of what is shown.
+    /// The open nodes and the links of what is shown.
     ghost shown: { Content → Shown };
 
     /// What reads do.

@@ -1,12 +1,16 @@
-//! The nodes that rows make.
+//! The nodes that rows make, and the links that they state.
 
 ghost use Rattle.std.specs.Prelude.{◌≡◌, IfOk};
-ghost use Rattle.bor_records.specs.Links.Rows.{is_legal_kind, node_in, info_stated, beside};
+ghost use Rattle.bor_records.specs.Links.Answers.{only_into};
+ghost use Rattle.bor_records.specs.Links.Nodes.{same_node};
+ghost use Rattle.bor_records.specs.Links.Rows.{is_legal_kind, node_in, info_stated, link_stated, named_by};
+ghost use Rattle.bor_records.specs.Links.Candidates.{beside};
 
 use crate::Row;
-use crate::links::node::{Node, NodeInfo, OpenNode, PersonInfo};
+use crate::links::node::{Link, Node, NodeInfo, OpenNode, PersonInfo};
+use crate::links::stake::{holding_of, stake_of};
 use bods_read::{Details, EntityKind, Identifier};
-use bor_terms::{Ident, Listed};
+use bor_terms::{Day, Ident, Listed};
 use std::alloc::{AllocError, Global};
 
 fn is_legal(kind: EntityKind) -> bool
@@ -73,4 +77,49 @@ pub fn info_stated(alloc: Global, details: &Details) -> Result<Option<NodeInfo>,
         Details::Person { name, .. } => Ok(Some(NodeInfo::Person(PersonInfo::named(alloc, name)?))),
         Details::Relationship { .. } => Ok(None),
     }
+}
+
+// Whether a node is the record of this identifier that stands with another one: of its agent and
+// declaration.
+fn is_named(node: &Node, other: &Node, rec: &Ident) -> bool
+    ensures { result ≡ same_node (named_by other.now rec.now) node.now }
+{
+    other.agent == node.agent && other.declaration == node.declaration && *rec == node.rec
+}
+
+/// The link into `subject` that the details of a record's statement state on a day, whether or not
+/// its ends are open. It shares the texts of `subject`.
+pub fn link_stated(
+    alloc: Global,
+    subject: &Node,
+    rec: &Node,
+    details: &Details,
+    day: Day,
+) -> Result<Option<Link>, AllocError>
+    ensures { IfOk result (λ link.
+        link ≡ only_into subject.now (link_stated day rec.now details.now)) }
+{
+    let Details::Relationship {
+        subject: Some(named),
+        party: Some(party),
+        interests,
+    } = details
+    else {
+        return Ok(None);
+    };
+    if !is_named(subject, rec, named) {
+        return Ok(None);
+    }
+    let interests = interests.as_slice();
+    Ok(Some(Link {
+        rec: rec.rec.copy(alloc)?,
+        subject: subject.copy(alloc)?,
+        party: Node {
+            agent: subject.agent.copy(alloc)?,
+            declaration: subject.declaration.copy(alloc)?,
+            rec: party.copy(alloc)?,
+        },
+        stake: stake_of(interests, day),
+        holding: holding_of(interests, day),
+    }))
 }

@@ -12,7 +12,7 @@ use Rattle.bor_records.specs.Links.Series.{stated}
 use Rattle.bor_records.proofs.OnLinks.Found.{none}
 use Rattle.bor_records.proofs.OnLinks.Growth.{Contains-take_more}
 use Rattle.bor_register.specs.declared.memory.index.Place.{Place}
-use Rattle.bor_records.specs.Links.Values.{IsNoted, under}
+use Rattle.bor_records.specs.Links.Values.{IsNoted}
 use Rattle.bor_register.specs.Memory.Indexed.{AreNoted}
 use Rattle.bor_register.specs.Memory.Sited.{places_from}
 

@@ -1,5 +1,5 @@
 -- The nodes and links that a viewer sees, by the statements that records show.
-use Rattle.std.proofs.Common.{◌≡◌, ◌↔◌, ℕ, ℤ, true, false, Option, Some, None, option_map, option_and_then, List, [], ◌∷◌, Contains, refl, ◌∙◌, sym, ap, subst}
+use Rattle.std.proofs.Common.{◌≡◌, ℕ, ℤ, true, false, Option, Some, None, option_map, option_and_then, List, [], ◌∷◌, Contains, refl, ◌∙◌, sym, ap, subst}
 use Rattle.std.specs.Prelude.{IsTrue, ◌&&◌}
 use Rattle.std.proofs.lemmas.Bool.{and_parts}
 use Rattle.std.proofs.lemmas.Option.{same_Some}
@@ -13,28 +13,23 @@ use Rattle.bor_records.specs.declared.links.node.OpenNode.{OpenNode}
 use Rattle.bor_records.specs.declared.links.sign.Sign.{Sign}
 use Rattle.bor_records.specs.declared.row.Row.{Row}
 use Rattle.bor_records.specs.Links.Answers.{only_into}
-use Rattle.bor_records.specs.Links.ByKey.{node_at}
-use Rattle.bor_records.specs.Links.Rows.{info_stated, link_with, node_in, node_with, nodes_of, shown_of}
+use Rattle.bor_records.specs.Links.Rows.{link_stated, node_with, nodes_of}
 use Rattle.bor_records.specs.Links.Series.{open_at, series_of, stated}
-use Rattle.bor_records.specs.Links.Shown.{entity_identifiers, identifiers_in, info_of, is_entity}
+use Rattle.bor_records.specs.Links.Shown.{entity_identifiers, identifiers_in, is_entity}
 use Rattle.bor_records.specs.Links.Signs.{signs}
-use Rattle.bor_records.proofs.OnLinks.ByKey.{listed_by_key, open_at_in}
+use Rattle.bor_records.proofs.OnLinks.ByKey.{listed_by_key}
 use Rattle.bor_records.proofs.OnLinks.Found.{here}
+use Rattle.bor_records.proofs.OnLinks.Stated.{node_open}
 use Rattle.bor_records.specs.Links.Alike.{CoverSign}
-use Rattle.bor_records.specs.Links.Candidates.{is_into, link_at, link_into, names}
+use Rattle.bor_records.specs.Links.Candidates.{is_into, names, stated_at}
 use Rattle.bor_register.specs.declared.member.Member.{Member}
 use Rattle.bor_register.specs.Register.{IsOrdered}
 use Rattle.bor_register.specs.Rows.{visible}
 use Rattle.bor_register.specs.Memory.Indexed.{AllNoted, record_beside, signs_stated, signs_of, subjects_in, subjects_of}
-use Rattle.bor_register.specs.Memory.Sighted.{as_row, identifiers_stated}
+use Rattle.bor_register.specs.Memory.Sighted.{identifiers_stated}
 use Rattle.bor_register.proofs.OnMemory.Rows.{seen-live}
 
 -- ---- nodes
-
-info_made : (n : Node) (d : Details) → option_map (λ (x : OpenNode). x.info) (node_with n d) ≡ info_stated d
-info_made n (details.Entity kind name identifiers) = refl
-info_made n (details.Person kind name) = refl
-info_made n (details.Relationship subject party interests) = refl
 
 identifiers_made : (n : Node) (d : Details) → identifiers_stated d ≡ option_and_then entity_identifiers (node_with n d)
 identifiers_made n (details.Entity kind name identifiers) = refl
@@ -42,45 +37,21 @@ identifiers_made n (details.Person kind name) = refl
 identifiers_made n (details.Relationship subject party interests) = refl
 
 module _ (day : ℤ) (rows : List Row) (n : Node) where
-  -- a node is what the statement says that its record shows
-  pub node_open : (t : Option Statement) → t ≡ option_map (λ (r : Row). r.statement) (open_at day n rows) → option_and_then (λ (s : Statement). node_with n s.details) t ≡ node_at day n rows
-  node_open t is = ap (option_and_then (λ (s : Statement). node_with n s.details)) is ∙ go (open_at day n rows) refl
-    where
-      go : (o : Option Row) → open_at day n rows ≡ o → option_and_then (λ (s : Statement). node_with n s.details) (option_map (λ (r : Row). r.statement) o) ≡ option_and_then node_in o
-      go None e = refl
-      go (Some r) e = ap (λ (m : Node). node_with m r.statement.details) (sym (open_at_in day n rows r e).1)
-
-  pub info_open : (t : Option Statement) → t ≡ option_map (λ (r : Row). r.statement) (open_at day n rows) → option_and_then (λ (s : Statement). info_stated s.details) t ≡ info_of (shown_of day rows) n
-  info_open t is = go t ∙ ap (option_map (λ (x : OpenNode). x.info)) (node_open t is ∙ sym (listed_by_key day n rows))
-    where
-      go : (o : Option Statement) → option_and_then (λ (s : Statement). info_stated s.details) o ≡ option_map (λ (x : OpenNode). x.info) (option_and_then (λ (s : Statement). node_with n s.details) o)
-      go None = refl
-      go (Some s) = sym (info_made n s.details)
-
   pub identifiers_open : (t : Option Statement) → t ≡ option_map (λ (r : Row). r.statement) (open_at day n rows) → option_and_then (λ (s : Statement). identifiers_stated s.details) t ≡ identifiers_in (nodes_of day rows) n
-  identifiers_open t is = go t ∙ ap (option_and_then entity_identifiers) (node_open t is ∙ sym (listed_by_key day n rows))
+  identifiers_open t is = go t ∙ ap (option_and_then entity_identifiers) (node_open day rows n t is ∙ sym (listed_by_key day n rows))
     where
       go : (o : Option Statement) → option_and_then (λ (s : Statement). identifiers_stated s.details) o ≡ option_and_then entity_identifiers (option_and_then (λ (s : Statement). node_with n s.details) o)
       go None = refl
       go (Some s) = identifiers_made n s.details
 
-link_placed : (day : ℤ) (nodes : List OpenNode) (r : Row) (agent : List ℕ) (d : Details) → r.agent ≡ agent → link_with day nodes r d ≡ link_with day nodes (as_row agent r.statement) d
-link_placed day nodes r agent d e = subst (λ (a : List ℕ). link_with day nodes r d ≡ link_with day nodes (as_row a r.statement) d) e (go d)
+-- the link that a record states is the one that its statement states
+pub link_open : (day : ℤ) (rows : List Row) (n k : Node) (t : Option Statement) → t ≡ option_map (λ (r : Row). r.statement) (open_at day k rows)
+    → only_into n (option_and_then (λ (s : Statement). link_stated day k s.details) t) ≡ stated_at day rows n k
+link_open day rows n k t is = ap (λ (o : Option Statement). only_into n (option_and_then (λ (s : Statement). link_stated day k s.details) o)) is ∙ go (open_at day k rows)
   where
-    go : (d : Details) → link_with day nodes r d ≡ link_with day nodes (as_row r.agent r.statement) d
-    go (details.Entity kind name identifiers) = refl
-    go (details.Person kind name) = refl
-    go (details.Relationship None party interests) = refl
-    go (details.Relationship (Some subject) None interests) = refl
-    go (details.Relationship (Some subject) (Some party) interests) = refl
-
--- the link that a record makes is the one that its statement makes
-pub link_open : (day : ℤ) (rows : List Row) (n k : Node) (t : Option Statement) → t ≡ option_map (λ (r : Row). r.statement) (open_at day k rows) → option_and_then (λ (s : Statement). link_into day rows n (as_row k.agent s)) t ≡ link_at day rows n k
-link_open day rows n k t is = ap (option_and_then (λ (s : Statement). link_into day rows n (as_row k.agent s))) is ∙ go (open_at day k rows) refl
-  where
-    go : (o : Option Row) → open_at day k rows ≡ o → option_and_then (λ (s : Statement). link_into day rows n (as_row k.agent s)) (option_map (λ (r : Row). r.statement) o) ≡ option_and_then (link_into day rows n) o
-    go None e = refl
-    go (Some r) e = ap (only_into n) (sym (link_placed day (nodes_of day rows) r k.agent r.statement.details (ap (λ (m : Node). m.agent) (open_at_in day k rows r e).1)))
+    go : (o : Option Row) → only_into n (option_and_then (λ (s : Statement). link_stated day k s.details) (option_map (λ (r : Row). r.statement) o)) ≡ only_into n (option_and_then (λ (r : Row). link_stated day k r.statement.details) o)
+    go None = refl
+    go (Some r) = refl
 
 -- a relationship into a node names it
 named_in : (n : Node) (agent : List ℕ) (s : Statement) (d : Details) → is_same agent n.agent ≡ true → is_same s.declaration n.declaration ≡ true → names n.rec d ≡ true → Contains (subjects_in agent s d) n
@@ -102,10 +73,8 @@ subject_named n agent s h =
 
 module _ (viewer : List ℕ) (today : ℤ) (ms : List Member) (ordered : IsOrdered ms) where
   -- the records that have named a node are those of the rows into it, and more
-  pub links_covered : (naming : Node → List Node) → AllNoted subjects_of ms naming → (n : Node) (candidates : List Node) → ((k : Node) → Contains candidates k ↔ Contains (naming n) k)
-      → (r : Row) → Contains (visible viewer today ms) r → is_into n r.agent r.statement ≡ true → Contains candidates (series_of r)
-  links_covered naming noted n candidates same r h into =
-      (same (series_of r)).1 (noted r.agent r.statement n (seen-live viewer today ms ordered r h) (subject_named n r.agent r.statement into))
+  pub naming_covered : (naming : Node → List Node) → AllNoted subjects_of ms naming → (n : Node) (r : Row) → Contains (visible viewer today ms) r → is_into n r.agent r.statement ≡ true → Contains (naming n) (series_of r)
+  naming_covered naming noted n r h into = noted r.agent r.statement n (seen-live viewer today ms ordered r h) (subject_named n r.agent r.statement into)
 
   -- ---- signs
 

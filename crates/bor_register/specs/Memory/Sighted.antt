@@ -1,6 +1,6 @@
 -- The part of a register in memory that a viewer sees, read by key; for clauses of private
 -- functions alone.
-use Rattle.std.specs.Prelude.{ℕ, List, Option, None, Some, option_map, if◌then◌else◌}
+use Rattle.std.specs.Prelude.{List, Option, None, Some, option_map, if◌then◌else◌}
 use Rattle.bods_read.specs.declared.details.Details.{Details}
 use Rattle.bods_read.specs.declared.details.Details.TheVariants as details
 use Rattle.bods_read.specs.declared.details.Identifier.{Identifier}
@@ -8,12 +8,12 @@ use Rattle.bods_read.specs.declared.statement.Statement.{Statement}
 use Rattle.bor_records.specs.Admission.{is_closed, stated_status}
 use Rattle.bor_records.specs.declared.links.node.Node.{Node}
 use Rattle.bor_records.specs.declared.row.Row.{Row}
-use Rattle.bor_records.specs.Links.Rows.{shown_of}
 use Rattle.bor_records.specs.Links.Series.{open_at}
 use Rattle.bor_records.specs.Links.Shown.{Shown}
+use Rattle.bor_records.specs.Links.Relationships.{RowsOn, shown_on}
 use Rattle.bor_register.specs.declared.memory.sight.Sight.{Sight}
 use Rattle.bor_register.specs.Register.{IsOrdered}
-use Rattle.bor_register.specs.Rows.{row_of, visible}
+use Rattle.bor_register.specs.Rows.{visible}
 use Rattle.bor_register.specs.Memory.Indexed.{IsIndex}
 
 -- The index is that of the members, who are in the order of their names.
@@ -25,9 +25,13 @@ pub record IsIndexed (x : Sight) : Type 0 where
 abbrev pub rows_in_sight : Sight → List Row
 rows_in_sight x = visible x.viewer.now x.today x.members.now
 
--- their nodes and links on the day of the answer
+-- as they stand on the day of the answer
+abbrev pub rows_told : Sight → RowsOn
+rows_told x = record { day = x.day; rows = rows_in_sight x }
+
+-- their nodes and links
 abbrev pub in_sight : Sight → Shown
-in_sight x = shown_of x.day (rows_in_sight x)
+in_sight x = shown_on (rows_told x)
 
 -- the statement that a record shows: the latest that the viewer sees, where it isn't closed
 abbrev pub statement_open : Sight → Node → Option Statement
@@ -36,10 +40,6 @@ statement_open x n = option_map (λ (r : Row). r.statement) (open_at x.day n (ro
 -- a statement that isn't closed
 abbrev pub statement_unless_closed : Statement → Option Statement
 statement_unless_closed s = if is_closed (stated_status s) then None else Some s
-
--- an agent's statement as a row: its links and nodes don't depend on where it stands
-abbrev pub as_row : List ℕ → Statement → Row
-as_row agent s = row_of agent 0 0 s
 
 -- an entity's identifiers
 abbrev pub identifiers_stated : Details → Option (List Identifier)

@@ -24,7 +24,7 @@ ghost use Rattle.bor_terms.specs.Texts.{is_below};
 use crate::keeping::Keep;
 use crate::memory::index::{Index, StatementKey, node_named};
 use crate::memory::records::Sighted;
-use crate::memory::sight::{Sight, links_told, node_told, row_told};
+use crate::memory::sight::{Sight, node_told, row_told};
 use crate::memory::standing::{any_stands, last_known};
 use crate::memory::succession;
 use crate::{
@@ -34,7 +34,7 @@ use crate::{
     rows_seen, statement_count, withdraw_of,
 };
 use bods_read::{Identifier, Statement};
-use bor_records::links::{Link, Node, NodeInfo, aliases, identified, same};
+use bor_records::links::{Link, Node, NodeInfo, aliases, identified, links_into, same};
 use bor_records::{Last, Row};
 use bor_terms::{AgentName, Day, Ident, LodgeKey, Token};
 use std::alloc::{AllocError, Global};
@@ -149,7 +149,10 @@ impl ListKeep {
     // The same, as records that are read by key.
     fn records_by<'a>(&'a self, index: &'a Index, viewer: &'a AgentName, day: Day) -> Sighted<'a>
         requires { IsIndex self.now.register.members index.now }
-        ensures { result ≡ seen_at viewer.now day self.now.register }
+        ensures { result ≡ record {
+          day = day;
+          rows = visible viewer.now self.now.register.day self.now.register.members;
+        } }
     {
         let sight = self.sight_by(index, viewer, day);
         Sighted { sight }
@@ -269,7 +272,8 @@ impl ListKeep {
             AreLinksInto (seen_at viewer.now day self.old.register) node.now links.items) }
     {
         let index = self.take_maps()?;
-        let told = links_told(&self.sight_by(&index, viewer, day), node);
+        let mut records = self.records_by(&index, viewer, day);
+        let told = links_into(&mut records, self.alloc, node);
         self.put_maps(index);
         told
     }

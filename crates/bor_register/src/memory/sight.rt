@@ -1,24 +1,22 @@
 //! The part of a register in memory that a viewer sees on a day, read by key.
 
-ghost use Rattle.std.specs.Prelude.{◌≡◌, ◌++◌, [], true, None, Some, IfOk, OnOk, filter, map, option_map, option_and_then};
-ghost use Rattle.std.specs.List.{cons_option, filter_map, last_or};
-ghost use Rattle.bor_records.specs.Links.Answers.{AreLinksInto, only_into};
-ghost use Rattle.bor_records.specs.Links.Nodes.{same_node};
-ghost use Rattle.bor_records.specs.Links.Rows.{info_stated, is_entity_info, is_some_info, link_between, nodes_of};
+ghost use Rattle.std.specs.Prelude.{◌≡◌, None, IfOk, filter, option_map, option_and_then};
+ghost use Rattle.std.specs.List.{last_or};
+ghost use Rattle.bor_records.specs.Links.Candidates.{stated_at};
+ghost use Rattle.bor_records.specs.Links.Rows.{info_stated, is_some_info};
 ghost use Rattle.bor_records.specs.Links.Series.{open_at};
 ghost use Rattle.bor_records.specs.Links.Shown.{identifiers_in, info_of};
 ghost use Rattle.bor_records.specs.Snapshot.{unless_closed as row_unless_closed};
-ghost use Rattle.bor_records.specs.Links.Candidates.{link_at, link_into};
 ghost use Rattle.bor_register.specs.Memory.Sited.{is_told, passes, row_sited, sited_at};
 ghost use Rattle.bor_register.specs.Rows.{row_of};
-ghost use Rattle.bor_register.specs.Memory.Sighted.{IsIndexed, as_row, identifiers_stated, in_sight, rows_in_sight, statement_open, statement_unless_closed};
+ghost use Rattle.bor_register.specs.Memory.Sighted.{IsIndexed, identifiers_stated, in_sight, rows_in_sight, statement_open, statement_unless_closed};
 
-use crate::memory::index::{Index, Place, node_named};
+use crate::memory::index::{Index, Place};
 use crate::{AcceptedFiling, Member, own_filings, row_of};
-use bods_read::{Details, Identifier, Interest, Statement, Status};
+use bods_read::{Details, Identifier, Statement, Status};
 use bor_records::Row;
-use bor_records::links::{Link, Node, NodeInfo, holding_of, info_stated, once, stake_of};
-use bor_terms::{AgentName, Day, Ident};
+use bor_records::links::{Link, Node, NodeInfo, info_stated, link_stated};
+use bor_terms::{AgentName, Day};
 use std::alloc::{AllocError, Global};
 
 /// The part of these members that a viewer sees on the register's day, `today`, as it stands on a
@@ -185,30 +183,13 @@ fn is_node_stated(details: &Details) -> bool
     !matches!(details, Details::Relationship { .. })
 }
 
-fn is_entity_stated(details: &Details) -> bool
-    ensures { result ≡ is_entity_info (info_stated details.now) }
-{
-    matches!(details, Details::Entity { .. })
-}
-
-// Whether the record is an open entity or person.
-fn is_node(sight: &Sight, node: &Node) -> bool
+/// Whether the record is an open entity or person.
+pub(crate) fn is_node(sight: &Sight, node: &Node) -> bool
     requires { IsIndexed sight.now }
     ensures { result ≡ is_some_info (info_of (in_sight sight.now) node.now) }
 {
     match open_statement(sight, node) {
         Some(statement) => is_node_stated(&statement.details),
-        None => false,
-    }
-}
-
-// Whether the record is an open entity.
-fn is_entity(sight: &Sight, node: &Node) -> bool
-    requires { IsIndexed sight.now }
-    ensures { result ≡ is_entity_info (info_of (in_sight sight.now) node.now) }
-{
-    match open_statement(sight, node) {
-        Some(statement) => is_entity_stated(&statement.details),
         None => false,
     }
 }
@@ -235,129 +216,19 @@ pub(crate) fn identifiers_told<'a>(sight: &Sight<'a>, node: &Node) -> Option<&'a
     }
 }
 
-// The link from a party into an open entity, where the party is open.
-fn link_from(
+/// The link into `subject` that the open statement of a record states, whether or not its ends are
+/// open.
+pub(crate) fn stated_link(
     sight: &Sight,
-    node: &Node,
-    rec: Ident,
-    party: Node,
-    interests: &[Interest],
+    subject: &Node,
+    rec: &Node,
 ) -> Result<Option<Link>, AllocError>
     requires { IsIndexed sight.now }
-    ensures { IfOk result (λ link. is_entity_info (info_of (in_sight sight.now) node.now) ≡ true
-        → link ≡ only_into node.now
-        (link_between sight.now.day
-        (nodes_of sight.now.day (rows_in_sight sight.now)) rec party node.now interests.now)) }
-{
-    if !is_node(sight, &party) {
-        return Ok(None);
-    }
-    Ok(Some(Link {
-        rec,
-        subject: node.copy(sight.alloc)?,
-        party,
-        stake: stake_of(interests, sight.day),
-        holding: holding_of(interests, sight.day),
-    }))
-}
-
-// Whether an agent's statement names the node by this record of its declaration.
-fn is_named(node: &Node, agent: &AgentName, declaration: &Ident, rec: &Ident) -> bool
-    ensures { result ≡ same_node node.now
-        (record { agent = agent.now; declaration = declaration.now; rec = rec.now }) }
-{
-    node.agent == *agent && node.declaration == *declaration && node.rec == *rec
-}
-
-// The link into an open entity that an agent's statement makes. It shares the entity's texts, which
-// are those of the statement.
-fn link_stated(
-    sight: &Sight,
-    node: &Node,
-    agent: &AgentName,
-    statement: &Statement,
-) -> Result<Option<Link>, AllocError>
-    requires { IsIndexed sight.now }
-    ensures { IfOk result (λ link. is_entity_info (info_of (in_sight sight.now) node.now) ≡ true
-        → link ≡ link_into sight.now.day (rows_in_sight sight.now) node.now
-        (as_row agent.now statement.now)) }
-{
-    match &statement.details {
-        Details::Relationship {
-            subject: Some(subject),
-            party: Some(party),
-            interests,
-        } => {
-            if !is_named(node, agent, &statement.declaration, subject) {
-                return Ok(None);
-            }
-            let party = node_named(sight.alloc, &node.agent, &node.declaration, party)?;
-            let rec = statement.rec.copy(sight.alloc)?;
-            link_from(sight, node, rec, party, interests.as_slice())
-        }
-        _ => Ok(None),
-    }
-}
-
-// The link into an open entity that a record makes.
-fn link_at(sight: &Sight, node: &Node, rec: &Node) -> Result<Option<Link>, AllocError>
-    requires { IsIndexed sight.now }
-    ensures { IfOk result (λ link. is_entity_info (info_of (in_sight sight.now) node.now) ≡ true
-        → link ≡ link_at sight.now.day (rows_in_sight sight.now) node.now rec.now) }
+    ensures { IfOk result (λ link.
+        link ≡ stated_at sight.now.day (rows_in_sight sight.now) subject.now rec.now) }
 {
     match open_statement(sight, rec) {
-        Some(statement) => link_stated(sight, node, &rec.agent, statement),
+        Some(statement) => link_stated(sight.alloc, subject, rec, &statement.details, sight.day),
         None => Ok(None),
     }
-}
-
-// Puts a link at the end, where there is one.
-fn push_some(links: &mut Vec<Link>, link: Option<Link>) -> Result<(), AllocError>
-    ensures { OnOk result (links.new.items ≡ links.old.items ++ cons_option link []) }
-{
-    match link {
-        Some(link) => Ok(links.push(link)?),
-        None => Ok(()),
-    }
-}
-
-// The links into an open entity that these records make.
-fn links_of(sight: &Sight, node: &Node, records: &[Node]) -> Result<Vec<Link>, AllocError>
-    requires { IsIndexed sight.now }
-    ensures { IfOk result (λ links. is_entity_info (info_of (in_sight sight.now) node.now) ≡ true
-        → links.items
-        ≡ filter_map (link_at sight.now.day (rows_in_sight sight.now) node.now) records.now) }
-{
-    let mut links = Vec::new(sight.alloc);
-    for one in records {
-        let link = link_at(sight, node, one)?;
-        push_some(&mut links, link)?;
-    }
-    Ok(links)
-}
-
-fn nodes_copied(alloc: Global, nodes: &[Node]) -> Result<Vec<Node>, AllocError>
-    ensures { IfOk result (λ copied. copied.items ≡ nodes.now) }
-{
-    let mut copied = Vec::new(alloc);
-    for node in nodes {
-        copied.push(node.copy(alloc)?)?;
-    }
-    Ok(copied)
-}
-
-/// The links into a node, each once.
-pub(crate) fn links_told(sight: &Sight, node: &Node) -> Result<Vec<Link>, AllocError>
-    requires { IsIndexed sight.now }
-    ensures { IfOk result (λ links. AreLinksInto (in_sight sight.now) node.now links.items) }
-{
-    if !is_entity(sight, node) {
-        return Ok(Vec::new(sight.alloc));
-    }
-    let naming = sight.index.naming(node);
-    if naming.len() < 2 {
-        return links_of(sight, node, naming);
-    }
-    let records = once(nodes_copied(sight.alloc, naming)?)?;
-    links_of(sight, node, &records)
 }

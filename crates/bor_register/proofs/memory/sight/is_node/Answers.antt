@@ -3,7 +3,7 @@ use Rattle.bods_read.specs.declared.statement.Statement.{Statement}
 use Rattle.bor_records.specs.declared.links.node.NodeInfo.{NodeInfo}
 use Rattle.bor_records.specs.Links.Rows.{is_some_info}
 use Rattle.bor_register.specs.Memory.Sighted.{rows_in_sight}
-use Rattle.bor_register.proofs.OnMemory.Sighted.{info_open}
+use Rattle.bor_records.proofs.OnLinks.Stated.{info_open}
 use Rattle.bor_register.proofs.memory.sight.is_node.Goals as goal
 
 pub returns-in-Some : goal.returns-in-Some

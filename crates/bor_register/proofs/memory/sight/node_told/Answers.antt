@@ -1,7 +1,7 @@
 use Rattle.std.proofs.Common.{◌∙◌, Option, Some, None, ap, sym, option_map, Bor}
 use Rattle.bods_read.specs.declared.statement.Statement.{Statement}
 use Rattle.bor_register.specs.Memory.Sighted.{rows_in_sight}
-use Rattle.bor_register.proofs.OnMemory.Sighted.{info_open}
+use Rattle.bor_records.proofs.OnLinks.Stated.{info_open}
 use Rattle.bor_register.proofs.OnMemory.Told.{told_then}
 use Rattle.bor_register.proofs.memory.sight.node_told.Goals as goal
 

@@ -1,0 +1,7 @@
+use Rattle.std.proofs.Common.{refl}
+use Rattle.bor_records.specs.Links.Answers.{AreSame}
+use Rattle.bor_register.proofs.OnMemory.Told.{told_seen}
+use Rattle.bor_register.proofs.memory.list_keep.ListKeep.same_seen.Goals as goal
+
+pub returns-clause-told : goal.returns-clause-told
+returns-clause-told c = told_seen c.same-told.result (λ s nodes. AreSame s c.args.node.now nodes.items) c.args.viewer.now c.args.day c.records_by-records.result _ _ c.records_by-records.ensures c.take_maps.ensures.kept (c.same-told.ensures.answer tt c.records_by-records.result refl)
