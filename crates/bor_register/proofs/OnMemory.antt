@@ -1,5 +1,6 @@
 pub mod Lists
 pub mod Sited
+pub mod Searched
 pub mod Withdrawn
 pub mod Rows
 pub mod Maps

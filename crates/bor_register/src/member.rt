@@ -2,7 +2,7 @@
 
 ghost use Rattle.std.specs.Prelude.{◌≡◌, ◌+◌, ◌<◌, ◌++◌, ◌∷◌, [], length, IfSome, IfNone, IfOk, OnOk, OnErr, option_map, true, false};
 ghost use Rattle.bor_register.specs.Limits.{filings_limit};
-ghost use Rattle.bor_register.specs.Register.{agent_with, is_enrolled, filings_of, new_member, with_member, with_filings, with_token};
+ghost use Rattle.bor_register.specs.Register.{IsOrdered, agent_with, is_enrolled, filings_of, new_member, with_member, with_filings, with_token};
 ghost use Rattle.bor_register.specs.Live.{accepted};
 ghost use Rattle.bor_register.specs.Withdrawal.{with_withdrawn};
 ghost use Rattle.bor_register.specs.Places.{IsPlace, IsPlaceFor};
@@ -66,7 +66,7 @@ pub(crate) fn caller_with(
     Ok(None)
 }
 
-/// The agent's filings; none where there is no such agent.
+/// The agent's filings; none where there is no such agent. The members may stand in any order.
 pub fn own_filings<'a>(members: &'a [Member], name: &AgentName) -> &'a [AcceptedFiling]
     ensures { result.now ≡ filings_of name.now members.now }
 {
@@ -76,6 +76,17 @@ pub fn own_filings<'a>(members: &'a [Member], name: &AgentName) -> &'a [Accepted
         }
     }
     &[]
+}
+
+/// The agent's filings, by binary search: the members stand in the order of their names.
+pub(crate) fn find_filings<'a>(members: &'a [Member], name: &AgentName) -> &'a [AcceptedFiling]
+    requires { IsOrdered members.now }
+    ensures { result.now ≡ filings_of name.now members.now }
+{
+    match members.binary_search_by(|member| member.name.cmp(name)) {
+        Ok(place) => members[place].filings.as_slice(),
+        Err(_) => &[],
+    }
 }
 
 // A filing with this number that is accepted.

@@ -35,9 +35,8 @@ module _ (s : Shown) where
     rest = [];
     begins = sym (append-nil nodes);
     signed = λ n h. absurd (none n h);
-    stays = λ k h. h;
     looked = λ k h. absurd (none k h);
-    fresh = λ k h. inl h;
+    noted = λ k h. inl h;
   }
 
   -- a sign that was looked up before
@@ -46,27 +45,31 @@ module _ (s : Shown) where
     rest = [];
     begins = sym (append-nil nodes);
     signed = λ n h. absurd (none n h);
-    stays = λ k h. h;
-    looked = λ k h. subst (λ (z : Sign). seen z ≡ true) (one_of key k h) was;
-    fresh = λ k h. inl h;
+    looked = λ k h. inl (subst (λ (z : Sign). seen z ≡ true) (one_of key k h) was);
+    noted = λ k h. inl h;
   }
 
-  -- a sign that is looked up for the first time
-  pub expands_sign : (key : Sign) (old new : List Node) (was now : Sign → Bool) → Grown (λ n. Contains (signs_in s n) key) old new
-      → ((q : Sign) → now q ≡ cond (is_eq (sign_cmp key q)) true (was q)) → now key ≡ true → Expands s (key ∷ []) old new was now
-  expands_sign key old new was now g up added = record {
+  -- a sign that is looked up, and not noted
+  pub expands_alone : (key : Sign) (old new : List Node) (seen : Sign → Bool) → Grown (λ n. Contains (signs_in s n) key) old new → Expands s (key ∷ []) old new seen seen
+  expands_alone key old new seen g = record {
     rest = g.rest;
     begins = g.begins;
     signed = λ n h. (key, here key [], g.only n h);
-    stays = λ k h. up k ∙ kept (is_eq (sign_cmp key k)) (was k) h;
-    looked = λ k h. subst (λ (z : Sign). now z ≡ true) (one_of key k h) added;
-    fresh = λ k h. from k (is_eq (sign_cmp key k)) refl (sym (up k) ∙ h);
+    looked = λ k h. inr (λ n own. g.every n (subst (λ (z : Sign). Contains (signs_in s n) z) (sym (one_of key k h)) own));
+    noted = λ k h. inl h;
+  }
+
+  -- one that is noted
+  pub expands_sign : (key : Sign) (old new : List Node) (was now : Sign → Bool) → Grown (λ n. Contains (signs_in s n) key) old new
+      → ((q : Sign) → now q ≡ cond (is_eq (sign_cmp key q)) true (was q)) → Expands s (key ∷ []) old new was now
+  expands_sign key old new was now g up = record {
+    rest = g.rest;
+    begins = g.begins;
+    signed = λ n h. (key, here key [], g.only n h);
+    looked = (expands_alone key old new was g).looked;
+    noted = λ k h. from k (is_eq (sign_cmp key k)) refl (sym (up k) ∙ h);
   }
     where
-      kept : (b c : Bool) → c ≡ true → cond b true c ≡ true
-      kept true c h = refl
-      kept false c h = h
-
       from : (k : Sign) (b : Bool) → is_eq (sign_cmp key k) ≡ b → cond b true (was k) ≡ true → (was k ≡ true) ⊎ ((n : Node) → Contains (signs_in s n) k → Contains new n)
       from k false q h = inl h
       from k true q h = inr (λ n own. g.every n (subst (λ (z : Sign). Contains (signs_in s n) z) (sym (tells_apart exact_sign key k q)) own))
@@ -80,16 +83,17 @@ module _ (s : Shown) where
       | inl x ↦ let m = g.signed n x in (m.0, Contains-append_left ks js m.0 m.1, m.2)
       | inr y ↦ let m = h.signed n y in (m.0, Contains-append_right ks js m.0 m.1, m.2)
     ];
-    stays = λ k x. h.stays k (g.stays k x);
-    looked = λ k x. elim (Contains-append_cases ks js k x) [ inl y ↦ h.stays k (g.looked k y) | inr y ↦ h.looked k y ];
-    fresh = λ k x. elim (h.fresh k x) [
-      | inl was ↦ elim (g.fresh k was) [
-        | inl old ↦ inl old
-        | inr y ↦ inr (λ n own. subst (λ (xs : List Node). Contains xs n) (sym h.begins) (Contains-append_left b h.rest n (y n own)))
-      ]
-      | inr y ↦ inr y
-    ];
+    looked = λ k x. elim (Contains-append_cases ks js k x) [ inl y ↦ still k (g.looked k y) | inr y ↦ then k (h.looked k y) ];
+    noted = λ k x. then k (h.noted k x);
   }
+    where
+      still : (k : Sign) → (p k ≡ true) ⊎ ((n : Node) → Contains (signs_in s n) k → Contains b n) → (p k ≡ true) ⊎ ((n : Node) → Contains (signs_in s n) k → Contains c n)
+      still k (inl old) = inl old
+      still k (inr all) = inr (λ n own. subst (λ (xs : List Node). Contains xs n) (sym h.begins) (Contains-append_left b h.rest n (all n own)))
+
+      then : (k : Sign) → (q k ≡ true) ⊎ ((n : Node) → Contains (signs_in s n) k → Contains c n) → (p k ≡ true) ⊎ ((n : Node) → Contains (signs_in s n) k → Contains c n)
+      then k (inl was) = still k (g.noted k was)
+      then k (inr all) = inr all
 
   -- the sign of a record, and those of its identifiers
   pub expands_both : (key : Sign) (n : Node) (ids : List Identifier) (a b c : List Node) (p q r : Sign → Bool) → key ≡ by_record n → signs_in s n ≡ signs_with n ids
@@ -111,7 +115,7 @@ gathered_start s first node before nodes seen empty is g unseen = record {
   own = g.every first (sym is);
   sound = λ b h. elim (grown_cases g b h) [ inl a ↦ absurd (none b (subst (λ (ns : List Node). Contains ns b) empty a)) | inr e ↦ ([], sym (e ∙ is)) ];
   covered = λ k n seen_k. absurd (let no : false ≡ true = sym (unseen k) ∙ seen_k in cc);
-  signed = λ b k h. absurd (none b h);
+  signed = λ b k n h. absurd (none b h);
 }
 
 pub gathered_more : (s : Shown) (first : Node) (next : ℕ) (node : Node) (a b : List Node) (was now : Sign → Bool) → next < length a → node ≡ get_or a next node → AreGathered s first next a was
@@ -128,10 +132,10 @@ gathered_more s first next node a b was now lt at g x = record {
           | inr alias ↦ same_more s first reached.0 node n reached.1 alias
         ]
   ];
-  covered = λ k n seen has. elim (x.fresh k seen) [ inl o ↦ still n (g.covered k n o has) | inr f ↦ f n has ];
-  signed = λ n k h has. elim (Contains-take_more a next node n lt (subst (λ (xs : List Node). Contains xs n) (ap (λ (xs : List Node). take (next + 1) xs) x.begins ∙ take-append-le (next + 1) a x.rest (omega arith)) h)) [
-    | inl o ↦ x.stays k (g.signed n k o has)
-    | inr e ↦ x.looked k (subst (λ (m : Node). Contains (signs_in s m) k) (e ∙ sym at) has)
+  covered = λ k n seen has. there k n has (x.noted k seen);
+  signed = λ m k n h own has. elim (Contains-take_more a next node m lt (subst (λ (xs : List Node). Contains xs m) (ap (λ (xs : List Node). take (next + 1) xs) x.begins ∙ take-append-le (next + 1) a x.rest (omega arith)) h)) [
+    | inl o ↦ still n (g.signed m k n o own has)
+    | inr e ↦ there k n has (x.looked k (subst (λ (m : Node). Contains (signs_in s m) k) (e ∙ sym at) own))
   ];
 }
   where
@@ -140,6 +144,10 @@ gathered_more s first next node a b was now lt at g x = record {
 
     still : (n : Node) → Contains a n → Contains b n
     still n h = subst (λ (ns : List Node). Contains ns n) (sym x.begins) (Contains-append_left a x.rest n h)
+
+    there : (k : Sign) (n : Node) → Contains (signs_in s n) k → (was k ≡ true) ⊎ ((m : Node) → Contains (signs_in s m) k → Contains b m) → Contains b n
+    there k n has (inl o) = still n (g.covered k n o has)
+    there k n has (inr all) = all n has
 
 -- ---- all aliases
 
@@ -170,7 +178,7 @@ aliases_found s n before class nodes was now empty none_seen x others once = rec
     complete : (b : Node) → Alias s n b → Contains nodes b
     complete b l =
         let k = shared s n b l in
-        elim (x.fresh k.0 (x.looked k.0 k.1)) [
+        elim (x.looked k.0 k.1) [
           | inl before_is ↦ absurd (let no : true ≡ false = sym before_is ∙ none_seen k.0 in cc)
           | inr all ↦ (others b).1 (all b k.2, λ e. two_nodes l.one l.two l.alike ((found_is s.nodes b l.two l.two_is).1 ∙ e ∙ sym (found_is s.nodes n l.one l.one_is).1))
         ]

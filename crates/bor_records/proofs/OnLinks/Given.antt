@@ -1,23 +1,35 @@
 -- A set beside a list, with the same elements.
-use Rattle.std.proofs.Common.{◌≡◌, ◌↔◌, ◌++◌, ◌-◌, ap, sym, refl, ◌∙◌, ℕ, Bool, true, false, cond, IsTrue, List, [], ◌∷◌, Contains, subst, inl, inr, arith, take, length, length-append}
+use Rattle.std.proofs.Common.{◌≡◌, ◌↔◌, ◌++◌, ◌-◌, Some, ap, sym, refl, ◌∙◌, ℕ, Bool, true, false, cond, IsTrue, List, [], ◌∷◌, Contains, subst, inl, inr, arith, take, length, length-append}
 use Rattle.std.specs.declared.cmp.Ordering.{Ordering}
 use Rattle.std.specs.declared.cmp.Ordering.TheVariants.{Less, Equal, Greater}
 use Rattle.std.specs.Ordering.{is_eq}
 use Rattle.std.specs.Cmp.{IsTotalOrder}
-use Rattle.std.specs.Prelude.{Result, Ok, Err, OnOk, OnErr}
+use Rattle.std.specs.Prelude.{Result, Ok, Err, OnOk, OnErr, drop, slice_get}
 use Rattle.std.specs.Result.{is_err}
 use Rattle.std.specs.BTreeSet.{BTreeSet, contains}
 use Rattle.std.proofs.lemmas.Map.Lookups.{CmpEqualImpliesEq}
 use Rattle.std.proofs.lemmas.Map.Views.{btree_set_contains_iff}
+use Rattle.std.proofs.lemmas.Option.{same_Some}
 use Rattle.std.proofs.lemmas.List.{take_all, take-append-le}
 use Rattle.std.proofs.lemmas.List.Elements.{Contains-append_left, Contains-push, Contains-push_cases}
 use Rattle.bor_records.specs.Links.Growth.{AreGiven}
+use Rattle.bor_records.proofs.OnLinks.Found.{cases, there}
 
 -- the set has it
 pub given_has : {X : Type 0} (cmp : X → X → Ordering) → IsTotalOrder cmp → CmpEqualImpliesEq cmp → (order : List X) (s : BTreeSet X) (m : X) → AreGiven order s.keys → IsTrue (contains cmp s m) ↔ Contains order m
 given_has {X} cmp total exact order s m g =
     let k = btree_set_contains_iff total exact s m in
     ((λ t. (g m).1 (k.0 t)), (λ h. k.1 ((g m).0 h)))
+
+-- the set has those behind the first
+pub rest_has : {X : Type 0} (cmp : X → X → Ordering) → IsTotalOrder cmp → CmpEqualImpliesEq cmp → (order : List X) (s : BTreeSet X) (first m : X) → Some first ≡ slice_get order 0 → (first ≡ m → ⊥)
+    → AreGiven (drop 1 order) s.keys → IsTrue (contains cmp s m) ↔ Contains order m
+rest_has {X} cmp total exact [] s first m at other g = absurd cc
+rest_has {X} cmp total exact (x ∷ order) s first m at other g =
+    let k = given_has cmp total exact order s m g in (
+      (λ t. there x order m (k.0 t)),
+      (λ h. elim (cases x order m h) [ inl e ↦ absurd (other (same_Some first x at ∙ e)) | inr r ↦ k.1 r ]),
+    )
 
 -- one more in both
 pub given_more : {X : Type 0} (cmp : X → X → Ordering) → IsTotalOrder cmp → CmpEqualImpliesEq cmp → (order : List X) (s n : BTreeSet X) (x : X) → AreGiven order s.keys
@@ -42,6 +54,15 @@ given_more {X} cmp total exact order s n x g updates added m = (
     from Less e t = old_one t
     from Greater e t = old_one t
     from Equal e t = subst (λ (y : X). Contains (order ++ x ∷ []) y) (exact x m e) (Contains-push order x)
+
+-- those behind the first, where there is one more
+pub rest_begun : {X : Type 0} (order others : List X) (x : X) → length order ≡ 0 → AreGiven (drop 1 order) others → AreGiven (drop 1 (order ++ x ∷ [])) others
+rest_begun [] others x empty g = g
+rest_begun (y ∷ order) others x empty g = absurd (let no : ⊥ = omega (arith, empty) in no)
+
+pub rest_more : {X : Type 0} (order : List X) (x : X) → (length order ≡ 0 → ⊥) → drop 1 order ++ x ∷ [] ≡ drop 1 (order ++ x ∷ [])
+rest_more [] x some = absurd (some refl)
+rest_more (y ∷ order) x some = refl
 
 -- what a pop after a push leaves
 pub popped : {X : Type 0} (order pushed left : List X) (x : X) (n : ℕ) → pushed ≡ order ++ x ∷ [] → n ≡ length pushed → left ≡ take (n - 1) pushed → left ≡ order

@@ -1,5 +1,5 @@
 -- Nodes in order, each once, and all but one.
-use Rattle.std.proofs.Common.{◌≡◌, ◌≢◌, ◌↔◌, ◌++◌, ◌∷◌, not, Bool, true, false, cond, List, [], Contains, refl, sym, ap, ◌∙◌, subst}
+use Rattle.std.proofs.Common.{◌≡◌, ◌≢◌, ◌↔◌, ◌++◌, ◌∷◌, not, Bool, true, false, cond, drop, List, [], Contains, refl, sym, ap, ◌∙◌, subst}
 use Rattle.std.specs.List.{dedup, filter, list_any, AllByRecursion, IsDistinct}
 use Rattle.std.specs.List.Retain.{IsFiltered, DiffersFromLast}
 use Rattle.std.specs.List.Sorted.{IsSorted, IsPermutation}
@@ -42,7 +42,7 @@ pub distinct_more : (nodes : List Node) (n : Node) → IsDistinct same_node node
 distinct_more nodes n once gone = IsDistinct-push node_equiv nodes n once (absent nodes n gone)
 
 -- no node
-pub none_once : (order given : List Node) → order ≡ [] → given ≡ [] → AreGiven order given × IsDistinct same_node order
+pub none_once : (order given : List Node) → order ≡ [] → given ≡ [] → AreGiven (drop 1 order) given × IsDistinct same_node order
 unfolding IsDistinct
 none_once order given e f = rw (e, f) ((λ n. ((λ h. h), (λ h. h))), tt)
 

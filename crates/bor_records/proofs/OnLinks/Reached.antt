@@ -29,18 +29,18 @@ reached_end s first next nodes all r once = record {
 
 -- ---- the same, sign by sign
 
--- All are the same as the first; all that have a sign that was seen are there, and the signs of those before a place were seen.
+-- All are the same as the first; all that have a sign that was seen are there, and so are those that share one with a node before a place.
 pub record AreGathered (s : Shown) (first : Node) (next : ℕ) (nodes : List Node) (seen : Sign → Bool) : Type 0 where
   pub own : Contains nodes first
   pub sound : (b : Node) → Contains nodes b → Same s first b
   pub covered : (k : Sign) (n : Node) → seen k ≡ true → Contains (signs_in s n) k → Contains nodes n
-  pub signed : (b : Node) (k : Sign) → Contains (take next nodes) b → Contains (signs_in s b) k → seen k ≡ true
+  pub signed : (b : Node) (k : Sign) (n : Node) → Contains (take next nodes) b → Contains (signs_in s b) k → Contains (signs_in s n) k → Contains nodes n
 
 pub gathered_reached : (s : Shown) (first : Node) (next : ℕ) (nodes : List Node) (seen : Sign → Bool) → AreGathered s first next nodes seen → AreReached s first next nodes
 gathered_reached s first next nodes seen g = record { own = g.own; sound = g.sound; closed = closed }
   where
     closed : (b c : Node) → Contains (take next nodes) b → Alias s b c → Contains nodes c
-    closed b c h l = let k = shared s b c l in g.covered k.0 c (g.signed b k.0 h k.1) k.2
+    closed b c h l = let k = shared s b c l in g.signed b k.0 c h k.1 k.2
 
 -- what is added is what is answered
 pub reached_told : (s : Shown) (first : Node) (next : ℕ) (class nodes : List Node) → nodes ≡ class → length class ≤ next → AreReached s first next class → IsDistinct same_node nodes → AreSame s first nodes

@@ -16,14 +16,14 @@ CoverSign rows k nodes =
     (row : Row) (x : OpenNode) → Contains rows row → node_in row ≡ Some x
     → IsTrue (is_entity x.info) → Contains (signs x) k → Contains nodes (series_of row)
 
--- Open entities are added, of which each has one of these signs. The signs have been looked up, and
--- of each that hadn't been before, all that have it are there.
+-- Open entities are added, of which each has one of these signs. Of each of the signs, and of each
+-- that is noted as looked up, all that have it are there, unless it was noted before.
 pub record Expands (s : Shown) (ks : List Sign) (old new : List Node)
     (was now : Sign → Bool) : Type 0 where
   pub rest : List Node
   pub begins : new ≡ old ++ rest
   pub signed : (n : Node) → Contains rest n → (k : Sign) × Contains ks k × Contains (signs_in s n) k
-  pub stays : (k : Sign) → was k ≡ true → now k ≡ true
-  pub looked : (k : Sign) → Contains ks k → now k ≡ true
-  pub fresh : (k : Sign) → now k ≡ true
+  pub looked : (k : Sign) → Contains ks k
+      → (was k ≡ true) ⊎ ((n : Node) → Contains (signs_in s n) k → Contains new n)
+  pub noted : (k : Sign) → now k ≡ true
       → (was k ≡ true) ⊎ ((n : Node) → Contains (signs_in s n) k → Contains new n)

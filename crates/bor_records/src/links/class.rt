@@ -13,16 +13,17 @@ use std::collections::BTreeSet;
 use std::marker::Model;
 
 /// Nodes in the order in which they were added, each once: those that stand for one entity, while
-/// they are looked for. To see whether one is there takes one look-up in a set.
+/// they are looked for. All but the first stand in a set too, where one is found by one look-up:
+/// most entities stand alone, and need no set.
 #[derive(Drop)]
 pub struct Class {
     alloc: Global,
     order: Vec<Node>,
-    given: BTreeSet<Node>,
+    rest: BTreeSet<Node>,
 }
 
 impl Model for Class {
-    ghost use Rattle.std.specs.Prelude.{List};
+    ghost use Rattle.std.specs.Prelude.{List, drop};
     ghost use Rattle.std.specs.List.{IsDistinct};
     ghost use Rattle.bor_records.specs.declared.links.node.Node.{Node};
     ghost use Rattle.bor_records.specs.Links.Nodes.{same_node};
@@ -32,7 +33,7 @@ impl Model for Class {
 
     ghost view = { λ c. c.order.items };
 
-    ghost invariant = { λ c. AreGiven c.order.items c.given.keys
+    ghost invariant = { λ c. AreGiven (drop 1 c.order.items) c.rest.keys
         × IsDistinct same_node c.order.items };
 }
 
@@ -44,7 +45,7 @@ impl Class {
         Class {
             alloc,
             order: Vec::new(alloc),
-            given: BTreeSet::new(alloc),
+            rest: BTreeSet::new(alloc),
         }
     }
 
@@ -67,7 +68,10 @@ impl Class {
     pub fn has(&self, node: &Node) -> bool
         ensures { IsTrue result ↔ Contains self.now node.now }
     {
-        self.given.contains(node)
+        match self.order.first() {
+            Some(first) => *first == *node || self.rest.contains(node),
+            None => false,
+        }
     }
 
     /// Adds a node at the end, unless it is there. Without memory the nodes stay as they are.
@@ -79,9 +83,13 @@ impl Class {
         if self.has(&node) {
             return Ok(());
         }
-        let given = node.copy(self.alloc)?;
+        if self.order.is_empty() {
+            self.order.push(node)?;
+            return Ok(());
+        }
+        let copied = node.copy(self.alloc)?;
         self.order.push(node)?;
-        if self.given.insert(given).is_err() {
+        if self.rest.insert(copied).is_err() {
             let _ = self.order.pop();
             return Err(AllocError);
         }

@@ -71,37 +71,39 @@ fn add_signed<R: Records>(
     Ok(())
 }
 
-// Adds all open entities that have the sign.
+// Adds all open entities that have the sign, and answers how many candidates were looked at.
 fn add_all_signed<R: Records>(
     records: &mut R,
     alloc: Global,
     class: &mut Class,
     sign: &Sign,
-) -> Result<(), R::Fault>
+) -> Result<usize, R::Fault>
     ensures { ReadsSo R.reading records.old records.new result (λ m _.
         Grown (λ n. Contains (signs_in (R.shown m) n) sign.now) class.old class.new) }
 {
     let candidates = records.signed(sign)?;
-    add_signed(records, alloc, class, sign, candidates.as_slice())
+    add_signed(records, alloc, class, sign, candidates.as_slice())?;
+    Ok(candidates.as_slice().len())
 }
 
 // Notes that a sign has been looked up.
 fn note(looked: &mut BTreeSet<Sign>, sign: Sign) -> Result<(), AllocError>
-    ensures others { OnOk result ((k : Sign) → contains sign_cmp looked.new k
+    ensures { OnOk result ((k : Sign) → contains sign_cmp looked.new k
         ≡ (if is_eq (sign_cmp sign k) then true else contains sign_cmp looked.old k)) }
-    ensures sign { OnOk result (contains sign_cmp looked.new sign ≡ true) }
 {
     looked.insert(sign)?;
     Ok(())
 }
 
-// Adds all open entities that have the sign, unless it has been looked up.
+// Adds all open entities that have the sign, unless it has been looked up. A sign that comes once in
+// its node, and has no other candidate, isn't noted: nobody asks for it again.
 fn add_by_sign<R: Records>(
     records: &mut R,
     alloc: Global,
     class: &mut Class,
     looked: &mut BTreeSet<Sign>,
     sign: Sign,
+    comes_once: bool,
 ) -> Result<(), R::Fault>
     ensures { ReadsSo R.reading records.old records.new result (λ m _.
         Expands (R.shown m) (sign ∷ []) class.old class.new
@@ -110,7 +112,10 @@ fn add_by_sign<R: Records>(
     if looked.contains(&sign) {
         return Ok(());
     }
-    add_all_signed(records, alloc, class, &sign)?;
+    let candidates = add_all_signed(records, alloc, class, &sign)?;
+    if comes_once && candidates < 2 {
+        return Ok(());
+    }
     note(looked, sign)?;
     Ok(())
 }
@@ -127,9 +132,10 @@ fn add_by_identifiers<R: Records>(
         Expands (R.shown m) (map by_identifier identifiers.now) class.old class.new
         (λ k. contains sign_cmp looked.old k) (λ k. contains sign_cmp looked.new k)) }
 {
+    let comes_once = identifiers.len() == 1;
     for identifier in identifiers {
         let sign = Sign::of_identifier(alloc, identifier)?;
-        add_by_sign(records, alloc, class, looked, sign)?;
+        add_by_sign(records, alloc, class, looked, sign, comes_once)?;
     }
     Ok(())
 }
@@ -151,7 +157,7 @@ fn add_by_node<R: Records>(
         return Ok(());
     };
     let sign = Sign::of_node(alloc, node)?;
-    add_by_sign(records, alloc, class, looked, sign)?;
+    add_by_sign(records, alloc, class, looked, sign, true)?;
     add_by_identifiers(records, alloc, class, looked, identifiers.as_slice())
 }
 

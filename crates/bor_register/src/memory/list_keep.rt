@@ -22,6 +22,7 @@ ghost use Rattle.bor_register.specs.Withdrawal.{has_successor};
 ghost use Rattle.bor_terms.specs.Texts.{is_below};
 
 use crate::keeping::Keep;
+use crate::member::find_filings;
 use crate::memory::index::{Index, StatementKey, node_named};
 use crate::memory::records::Sighted;
 use crate::memory::sight::{Sight, node_told, row_told};
@@ -30,8 +31,8 @@ use crate::memory::succession;
 use crate::{
     AcceptedFiling, AgentLine, Caller, FILINGS_LIMIT, Filing, FilingLine, Member, Outward,
     StoreFault, all_agents, all_lines, all_published, all_visible, caller_with, enrol_member,
-    filing_under, is_enrolled, is_filed, line_under, own_filings, push_filing, renew_token,
-    rows_seen, statement_count, withdraw_of,
+    filing_under, is_enrolled, is_filed, line_under, push_filing, renew_token, rows_seen,
+    statement_count, withdraw_of,
 };
 use bods_read::{Identifier, Statement};
 use bor_records::links::{Link, Node, NodeInfo, aliases, identified, links_into, same};
@@ -290,7 +291,7 @@ impl ListKeep {
     {
         let node = node_named(self.alloc, agent, declaration, rec)?;
         let index = self.take_maps()?;
-        let filings = own_filings(&self.members, agent);
+        let filings = find_filings(&self.members, agent);
         let told = last_known(filings, index.places_of(&node), &node);
         self.put_maps(index);
         Ok(told)
@@ -303,7 +304,7 @@ impl ListKeep {
     {
         let key = key_named(self.alloc, agent, id)?;
         let index = self.take_maps()?;
-        let filings = own_filings(&self.members, agent);
+        let filings = find_filings(&self.members, agent);
         let told = any_stands(filings, index.places_named(&key), &key);
         self.put_maps(index);
         Ok(told)
@@ -316,7 +317,7 @@ impl ListKeep {
             ≡ has_successor number (filings_of agent.now self.old.register.members)) }
     {
         let index = self.take_maps()?;
-        let filings = own_filings(&self.members, agent);
+        let filings = find_filings(&self.members, agent);
         let told = succession::has_successor(self.alloc, &index, agent, filings, number);
         self.put_maps(index);
         told
@@ -327,7 +328,8 @@ impl ListKeep {
         ensures { result ≡ true → (is_enrolled agent.now self.now.register.members ≡ true)
             × (length (filings_of agent.now self.now.register.members) < filings_limit) }
     {
-        is_enrolled(&self.members, agent) && own_filings(&self.members, agent).len() < FILINGS_LIMIT
+        is_enrolled(&self.members, agent)
+            && find_filings(&self.members, agent).len() < FILINGS_LIMIT
     }
 
     // The maps with a filing that is to be added to an agent's. They are taken out.
@@ -343,7 +345,7 @@ impl ListKeep {
             (filings_of agent.now self.old.register.members ++ f ∷ [])
             self.old.register.members) index) }
     {
-        let filing = own_filings(&self.members, agent).len();
+        let filing = find_filings(&self.members, agent).len();
         let index = self.take_maps()?;
         index.with_filing(self.alloc, agent, filing, statements)
     }
@@ -464,7 +466,7 @@ impl Keep for ListKeep {
     }
 
     fn filing(&mut self, agent: &AgentName, key: &LodgeKey) -> Result<Option<Filing>, StoreFault> {
-        let filing = filing_under(self.alloc, own_filings(&self.members, agent), key);
+        let filing = filing_under(self.alloc, find_filings(&self.members, agent), key);
         self.told(filing)
     }
 
@@ -473,7 +475,7 @@ impl Keep for ListKeep {
         agent: &AgentName,
         key: &LodgeKey,
     ) -> Result<Option<FilingLine>, StoreFault> {
-        let filings = own_filings(&self.members, agent);
+        let filings = find_filings(&self.members, agent);
         let line = line_under(self.alloc, filings, key, self.day);
         self.told(line)
     }
@@ -484,15 +486,15 @@ impl Keep for ListKeep {
         key: &LodgeKey,
         bytes: &[u8],
     ) -> Result<bool, StoreFault> {
-        Ok(is_filed(own_filings(&self.members, agent), key, bytes))
+        Ok(is_filed(find_filings(&self.members, agent), key, bytes))
     }
 
     fn filing_count(&mut self, agent: &AgentName) -> Result<usize, StoreFault> {
-        Ok(own_filings(&self.members, agent).len())
+        Ok(find_filings(&self.members, agent).len())
     }
 
     fn filings(&mut self, agent: &AgentName) -> Result<Vec<FilingLine>, StoreFault> {
-        let lines = all_lines(self.alloc, own_filings(&self.members, agent), self.day);
+        let lines = all_lines(self.alloc, find_filings(&self.members, agent), self.day);
         self.told(lines)
     }
 
@@ -522,7 +524,7 @@ impl Keep for ListKeep {
         agent: &AgentName,
         declaration: &Ident,
     ) -> Result<Vec<Row>, StoreFault> {
-        let filings = own_filings(&self.members, agent);
+        let filings = find_filings(&self.members, agent);
         let rows = rows_seen(self.alloc, viewer, self.day, agent, declaration, filings);
         self.told(rows)
     }

@@ -11,8 +11,9 @@ ghost use Rattle.bor_register.specs.Memory.Sited.{is_told, passes, row_sited, si
 ghost use Rattle.bor_register.specs.Rows.{row_of};
 ghost use Rattle.bor_register.specs.Memory.Sighted.{IsIndexed, identifiers_stated, in_sight, rows_in_sight, statement_open, statement_unless_closed};
 
+use crate::member::find_filings;
 use crate::memory::index::{Index, Place};
-use crate::{AcceptedFiling, Member, own_filings, row_of};
+use crate::{AcceptedFiling, Member, row_of};
 use bods_read::{Details, Identifier, Statement, Status};
 use bor_records::Row;
 use bor_records::links::{Link, Node, NodeInfo, info_stated, link_stated};
@@ -96,7 +97,7 @@ fn latest<'a>(sight: &Sight<'a>, node: &Node) -> Option<&'a Statement>
     ensures { option_and_then statement_unless_closed (option_map (λ s. s.now) result)
         ≡ statement_open sight.now node.now }
 {
-    let filings = own_filings(sight.members, &node.agent);
+    let filings = find_filings(sight.members, &node.agent);
     let places = sight.index.places_of(node);
     match last_told(sight, &node.agent, filings, places) {
         Some(place) => statement_at(filings, place),
@@ -157,7 +158,7 @@ pub(crate) fn row_told(sight: &Sight, node: &Node) -> Result<Option<Row>, AllocE
     ensures { IfOk result (λ row.
         row ≡ open_at sight.now.day node.now (rows_in_sight sight.now)) }
 {
-    let filings = own_filings(sight.members, &node.agent);
+    let filings = find_filings(sight.members, &node.agent);
     let places = sight.index.places_of(node);
     match last_told(sight, &node.agent, filings, places) {
         Some(place) => row_at(sight.alloc, &node.agent, filings, place),

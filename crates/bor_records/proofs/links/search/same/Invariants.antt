@@ -5,7 +5,7 @@ use Rattle.bor_records.specs.Links.Signs.{sign_cmp}
 use Rattle.bor_records.proofs.OnLinks.Reached.{AreGathered}
 use Rattle.bor_records.proofs.links.search.same.Given as goal
 
--- the signs of the nodes before `next` are looked up, and all that have them are there
+-- all that share a sign with a node before `next` are there, and so are those that have a noted one
 abbrev pub invariant-loop-next : goal.invariant-loop-next
 invariant-loop-next g l = ReadsSo g.R.Records.reading l.fn.records l.records (Ok l.class)
     (λ m class. AreGathered (g.R.Records.shown m) l.node l.next class (λ k. contains sign_cmp l.looked k))

@@ -15,8 +15,8 @@ returns-in-Some c =
     shown_sited sight.viewer.now sight.today sight.day n sight.members.now c.requires.ordered c.places_of-places.result.now
     (subst (ArePlacesOf (filings_of n.agent sight.members.now) (has_record n)) (sym c.places_of-places.ensures) (c.requires.index.series n))
     (Some c.in-Some.place) _
-    (sym c.in-Some.is ∙ c.last_told.ensures ∙ ap (λ (fs : List AcceptedFiling). last_or None (filter (λ p. passes (is_told sight.viewer.now sight.today sight.day n.agent) (sited_at fs p)) c.places_of-places.result.now)) c.own_filings-filings.ensures)
-    (c.statement_at.ensures ∙ ap (λ (fs : List AcceptedFiling). option_map (λ x. x.statement) (sited_at fs c.in-Some.place)) c.own_filings-filings.ensures)
+    (sym c.in-Some.is ∙ c.last_told.ensures ∙ ap (λ (fs : List AcceptedFiling). last_or None (filter (λ p. passes (is_told sight.viewer.now sight.today sight.day n.agent) (sited_at fs p)) c.places_of-places.result.now)) c.find_filings-filings.ensures)
+    (c.statement_at.ensures ∙ ap (λ (fs : List AcceptedFiling). option_map (λ x. x.statement) (sited_at fs c.in-Some.place)) c.find_filings-filings.ensures)
 
 pub returns-in-None : goal.returns-in-None
 returns-in-None c =
@@ -25,5 +25,5 @@ returns-in-None c =
     shown_sited sight.viewer.now sight.today sight.day n sight.members.now c.requires.ordered c.places_of-places.result.now
     (subst (ArePlacesOf (filings_of n.agent sight.members.now) (has_record n)) (sym c.places_of-places.ensures) (c.requires.index.series n))
     None None
-    (sym c.in-None.is ∙ c.last_told.ensures ∙ ap (λ (fs : List AcceptedFiling). last_or None (filter (λ p. passes (is_told sight.viewer.now sight.today sight.day n.agent) (sited_at fs p)) c.places_of-places.result.now)) c.own_filings-filings.ensures)
+    (sym c.in-None.is ∙ c.last_told.ensures ∙ ap (λ (fs : List AcceptedFiling). last_or None (filter (λ p. passes (is_told sight.viewer.now sight.today sight.day n.agent) (sited_at fs p)) c.places_of-places.result.now)) c.find_filings-filings.ensures)
     refl

@@ -16,11 +16,11 @@ returns-in-Some c =
     let n : Node = c.args.node.now in
     let places = c.places_of-places.result.now in
     told_then c.row_at.result _ _
-    (λ row h. h ∙ ap (λ (fs : List AcceptedFiling). option_and_then unless_closed (option_map (row_sited n.agent) (sited_at fs c.in-Some.place))) c.own_filings-filings.ensures
+    (λ row h. h ∙ ap (λ (fs : List AcceptedFiling). option_and_then unless_closed (option_map (row_sited n.agent) (sited_at fs c.in-Some.place))) c.find_filings-filings.ensures
     ∙ opened_sited sight.viewer.now sight.today sight.day n sight.members.now c.requires.ordered places
     (subst (ArePlacesOf (filings_of n.agent sight.members.now) (has_record n)) (sym c.places_of-places.ensures) (c.requires.index.series n))
     (Some c.in-Some.place)
-    (sym c.in-Some.is ∙ c.last_told.ensures ∙ ap (λ (fs : List AcceptedFiling). last_or None (filter (λ p. passes (is_told sight.viewer.now sight.today sight.day n.agent) (sited_at fs p)) places)) c.own_filings-filings.ensures))
+    (sym c.in-Some.is ∙ c.last_told.ensures ∙ ap (λ (fs : List AcceptedFiling). last_or None (filter (λ p. passes (is_told sight.viewer.now sight.today sight.day n.agent) (sited_at fs p)) places)) c.find_filings-filings.ensures))
     c.row_at.ensures
 
 pub returns-in-None : goal.returns-in-None
@@ -31,4 +31,4 @@ returns-in-None c =
     opened_sited sight.viewer.now sight.today sight.day n sight.members.now c.requires.ordered places
     (subst (ArePlacesOf (filings_of n.agent sight.members.now) (has_record n)) (sym c.places_of-places.ensures) (c.requires.index.series n))
     None
-    (sym c.in-None.is ∙ c.last_told.ensures ∙ ap (λ (fs : List AcceptedFiling). last_or None (filter (λ p. passes (is_told sight.viewer.now sight.today sight.day n.agent) (sited_at fs p)) places)) c.own_filings-filings.ensures)
+    (sym c.in-None.is ∙ c.last_told.ensures ∙ ap (λ (fs : List AcceptedFiling). last_or None (filter (λ p. passes (is_told sight.viewer.now sight.today sight.day n.agent) (sited_at fs p)) places)) c.find_filings-filings.ensures)

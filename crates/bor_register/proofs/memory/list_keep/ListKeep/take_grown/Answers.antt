@@ -19,7 +19,7 @@ returns-clause-grown c =
     let agent = c.args.agent.now in
     let statements = c.args.statements.now in
     let before : List Member = c.args.self.now.register.members in
-    let own : c.own_filings-filing.result.now ≡ filings_of agent before = c.own_filings-filing.ensures ∙ ap (λ (ms : List Member). filings_of agent ms) (c.deref.ensures.value ∙ ap (λ (h : Holding). h.register.members) c.self.view_is) in
+    let own : c.find_filings-filing.result.now ≡ filings_of agent before = c.find_filings-filing.ensures ∙ ap (λ (ms : List Member). filings_of agent ms) (c.deref.ensures.value ∙ ap (λ (h : Holding). h.register.members) c.self.view_is) in
     let old : Index = c.in_ok-index.index in
     told_then c.with_filing.result _ (Grows agent statements before)
     (λ index g f same enrolled. index_more before agent f old index enrolled c.in_ok-index.ensures.maps
