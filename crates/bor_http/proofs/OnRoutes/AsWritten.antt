@@ -125,8 +125,14 @@ to_named rest =
     ∙ into 97 (codes "gents") of_agents from_chains (codes "/" ++ rest) (text_of (codes "agents") refl) (record { param = refl; catch_all = refl }) refl
     ∙ into 47 [] (named (entry paths.Agent)) (end paths.Agents) rest (text_of (codes "/") refl) (record { param = refl; catch_all = refl }) refl
 
+-- a text that is a path's word, which the rows find
+word_found : (text : List ℕ) (path : Path) → text ≡ path_word path → first (led (codes "/") from_agents) (path_word path) ≡ Some (entry path)
+    → path_in router text ≡ Some path
+word_found text path is found =
+    value_found text path (ap (λ rows. first rows text) router_is ∙ ap (λ t. first (led (codes "/") from_agents) t) is ∙ found)
+
 pub is_found : (path : Path) (text : List ℕ) → IsText text → IsPath path text → path_in router text ≡ Some path
-unfolding matchit_on_literals router
+unfolding matchit_on_literals
 is_found paths.Filing text bytes (key, segment, is) =
     let slash : has_slash key ≡ false = slash_is key ∙ segment.one in
     ap (path_in router) is ∙ value_found (codes "/filings/" ++ key) paths.Filing
@@ -136,19 +142,19 @@ is_found paths.File text bytes (key, segment, is) =
     ap (path_in router) is ∙ value_found (codes "/filings/" ++ key ++ codes "/file") paths.File
     (to_keyed (key ++ codes "/file") ∙ file_found (entry paths.File) (entry paths.Filing) key
     (text_front key (codes "/file") (text_behind (codes "/filings/") (key ++ codes "/file") (subst IsText is bytes))) segment.some slash)
-is_found paths.Filings text bytes is = ap (path_in router) is
-is_found paths.Published text bytes is = ap (path_in router) is
-is_found paths.Snapshot text bytes is = ap (path_in router) is
-is_found paths.Chains text bytes is = ap (path_in router) is
-is_found paths.Evidence text bytes is = ap (path_in router) is
-is_found paths.Entities text bytes is = ap (path_in router) is
-is_found paths.Day text bytes is = ap (path_in router) is
-is_found paths.Agents text bytes is = ap (path_in router) is
+is_found paths.Filings text bytes is = word_found text paths.Filings is refl
+is_found paths.Published text bytes is = word_found text paths.Published is refl
+is_found paths.Snapshot text bytes is = word_found text paths.Snapshot is refl
+is_found paths.Chains text bytes is = word_found text paths.Chains is refl
+is_found paths.Evidence text bytes is = word_found text paths.Evidence is refl
+is_found paths.Entities text bytes is = word_found text paths.Entities is refl
+is_found paths.Day text bytes is = word_found text paths.Day is refl
+is_found paths.Agents text bytes is = word_found text paths.Agents is refl
 is_found paths.Agent text bytes (name, segment, is) =
     let slash : has_slash name ≡ false = slash_is name ∙ segment.one in
     ap (path_in router) is ∙ value_found (codes "/agents/" ++ name) paths.Agent
     (to_named name ∙ agent_found (entry paths.Agent) name (text_behind (codes "/agents/") name (subst IsText is bytes)) segment.some slash)
-is_found paths.Register text bytes is = ap (path_in router) is
+is_found paths.Register text bytes is = word_found text paths.Register is refl
 
 -- ---- what is found is the path that the text is
 
