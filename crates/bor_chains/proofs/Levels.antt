@@ -1,5 +1,5 @@
 -- A walk that keeps the reason for each mark, level by level, up to its end.
-use Rattle.std.proofs.Common.{◌≡◌, ◌⊎◌, ◌+◌, ◌<◌, ◌≤◌, ◌++◌, ℕ, nat_lt, Bool, true, false, Option, Some, None, List, [], ◌∷◌, Contains, length, sym, refl, ap, ◌∙◌, subst, inl, inr, arith}
+use Rattle.std.proofs.Common.{◌≡◌, ◌⊎◌, ◌+◌, ◌<◌, ◌≤◌, ℕ, nat_lt, Bool, true, false, Option, Some, None, List, [], ◌∷◌, Contains, length, sym, refl, ap, ◌∙◌, subst, inl, inr, arith}
 use Rattle.std.specs.List.{slice_get}
 use Rattle.std.specs.Prelude.{slice_index_or}
 use Rattle.std.specs.List.Sorted.{IsSorted}
@@ -19,6 +19,7 @@ use Rattle.bor_records.specs.Links.Aliases.{Same}
 use Rattle.bor_records.specs.Links.Answers.{AreSame}
 use Rattle.bor_records.proofs.OnLinks.Exact.{exact_link}
 use Rattle.bor_records.proofs.OnLinks.Found.{none}
+use Rattle.bor_records.specs.Links.Growth.{Grown}
 use Rattle.bor_records.proofs.OnLinks.Growth.{grown_cases}
 use Rattle.bor_records.proofs.OnLinks.Sames.{same_turn}
 use Rattle.bor_chains.specs.declared.crossed.Crossing.{Crossing}
@@ -30,7 +31,7 @@ use Rattle.bor_chains.specs.declared.trail.Trail.{Trail}
 use Rattle.bor_chains.specs.Evidence.{IsNotAfter}
 use Rattle.bor_chains.specs.Marks.{IsOneOf, CountsAt}
 use Rattle.bor_chains.specs.Crossings.{crossing_cmp, IsCrossing, AreCrossings}
-use Rattle.bor_chains.specs.Trail.{Down, DownAs, IsLeastDown, LeadsAs, LeadsTo, ReadsOff, StandsAt, GivesMarks, AreWhole, IsByFirst, FollowsTo, TellsAs, IsReached, IsAtLevel, IsAll}
+use Rattle.bor_chains.specs.Trail.{Down, DownAs, IsLeastDown, LeadsAs, LeadsTo, ReadsOff, StandsAt, IsFilled, AreWhole, IsByFirst, FollowsTo, TellsAs, IsReached, IsAtLevel, IsAll}
 use Rattle.bor_chains.specs.Lines.{link_total}
 use Rattle.bor_chains.proofs.Least.{less_first, same_first, shorter, itself}
 use Rattle.bor_chains.proofs.Down.{down_more, IsFirstDown, down_first, down_none, one_mark}
@@ -58,20 +59,20 @@ in_turn cs sorted i j c d le one two = not_greater c d
 
 -- ---- the start
 
-pub level_start : (s : Shown) (e : Node) (nodes : List Node) (a w : Trail) → a.marks ≡ [] → a.steps.items ≡ [] → AreSame s e nodes → GivesMarks (IsOneOf nodes Target) None a w → IsAtLevel s e 0 0 w
-level_start s e nodes a w no_marks no_steps all g = record { whole = whole; beside = beside; each = each; near = near; tells = tells }
+pub level_start : (s : Shown) (e : Node) (nodes : List Node) (w : Trail) → AreSame s e nodes → Grown (IsOneOf nodes Target) [] w.marks → IsFilled (length w.marks) None [] w.steps.items → IsAtLevel s e 0 0 w
+level_start s e nodes w all marks steps = record { whole = whole; beside = beside; each = each; near = near; tells = tells }
   where
     is_target : (m : Marked) → Contains w.marks m → Same s m.node e × (m.mark ≡ Target)
-    is_target m h = elim (grown_cases g.marks m h) [
-      | inl was ↦ absurd (none m (subst (λ (ms : List Marked). Contains ms m) no_marks was))
+    is_target m h = elim (grown_cases marks m h) [
+      | inl was ↦ absurd (none m was)
       | inr p ↦ (same_turn s e m.node ((all.each m.node).0 p.0), p.1)
     ]
 
     no_step : (o : Option Step) → Contains w.steps.items o → o ≡ None
-    no_step o h = g.steps.all o (subst (λ (xs : List (Option Step)). Contains xs o) (g.steps.begins ∙ ap (λ (xs : List (Option Step)). xs ++ g.steps.rest) no_steps) h)
+    no_step o h = steps.all o (subst (λ (xs : List (Option Step)). Contains xs o) steps.begins h)
 
     beside : length w.steps.items ≡ length w.marks
-    beside = g.steps.long (let z = ap (λ (xs : List (Option Step)). length xs) no_steps in omega (arith, z))
+    beside = steps.long (omega arith)
 
     whole : AreWhole s w.marks
     whole x y same on = let no : Middle ≡ Target = (is_target (record { node = x; mark = Middle }) on).1 in absurd cc
@@ -92,7 +93,7 @@ level_start s e nodes a w no_marks no_steps all g = record { whole = whole; besi
     }
 
     near : (m : Marked) (ks : List Link) → Down s e m ks → length ks ≤ 0 → Contains w.marks m
-    near m [] d le = let t = down_none s e m d in g.marks.every m ((all.each m.node).1 (same_turn s m.node e t.1), t.0)
+    near m [] d le = let t = down_none s e m d in marks.every m ((all.each m.node).1 (same_turn s m.node e t.1), t.0)
     near m (k ∷ ks) d le = absurd (omega (arith, le))
 
     tells : (i : ℕ) (m : Marked) (step : Step) → StandsAt w i m (Some step) → TellsAs s m.node m.mark step

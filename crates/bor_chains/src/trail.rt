@@ -1,6 +1,6 @@
 //! The walk that keeps the reason for each mark.
 
-ghost use Rattle.std.specs.Prelude.{◌≡◌, ◌+◌, ◌≤◌, ℕ, true, Some, OnOk, IfOk, IfErr, length};
+ghost use Rattle.std.specs.Prelude.{◌≡◌, ◌+◌, ◌≤◌, ℕ, [], true, None, Some, OnOk, IfOk, length};
 ghost use Rattle.bor_records.specs.Promises.{Kept, Promised};
 ghost use Rattle.bor_records.specs.declared.links.node.Node.{Node};
 ghost use Rattle.bor_records.specs.declared.links.node.NodeInfo.TheVariants as infos;
@@ -25,49 +25,44 @@ pub(crate) struct Step {
     pub(crate) info: NodeInfo,
 }
 
-// The step over a crossing.
-fn step_over(crossing: Crossing, info: NodeInfo) -> Step
-    ensures { result ≡ step_by crossing info }
+// The step over a crossing to what its link's party is.
+fn step_over(alloc: Global, crossing: &Crossing, info: &NodeInfo) -> Result<Step, AllocError>
+    ensures { IfOk result (λ step. step ≡ step_by crossing.now info.now) }
 {
-    Step {
-        link: crossing.link,
+    Ok(Step {
+        link: crossing.link.copy(alloc)?,
         below: crossing.below,
-        info,
-    }
+        info: info.copy(alloc)?,
+    })
 }
 
-fn copied(alloc: Global, step: &Option<Step>) -> Result<Option<Step>, AllocError>
-    ensures { IfOk result (λ copied. copied ≡ step.now) }
-{
-    match step {
-        Some(step) => Ok(Some(Step {
-            link: step.link.copy(alloc)?,
-            below: step.below,
-            info: step.info.copy(alloc)?,
-        })),
-        None => Ok(None),
-    }
-}
-
-// Puts a step at the end, after copies of it, until there are so many.
+// Puts the step over a crossing at the end until there are so many.
 fn fill(
     alloc: Global,
     steps: &mut Vec<Option<Step>>,
     count: usize,
-    step: Option<Step>,
+    crossing: &Crossing,
+    info: &NodeInfo,
 ) -> Result<(), AllocError>
-    ensures { OnOk result (IsFilled count step steps.old.items steps.new.items) }
+    ensures { OnOk result (IsFilled count (Some (step_by crossing.now info.now))
+        steps.old.items steps.new.items) }
 {
-    let last = count.saturating_sub(1);
-    while steps.len() < last {
-        let one = copied(alloc, &step)?;
-        steps.push(one)?;
+    while steps.len() < count {
+        let step = step_over(alloc, crossing, info)?;
+        steps.push(Some(step))?;
     }
-    if steps.len() < count {
-        Ok(steps.push(step)?)
-    } else {
-        Ok(())
+    Ok(())
+}
+
+// Places for the steps of so many marks, each without one.
+fn without_steps(alloc: Global, count: usize) -> Result<Vec<Option<Step>>, AllocError>
+    ensures { IfOk result (λ steps. IsFilled count None [] steps.items) }
+{
+    let mut steps = Vec::new(alloc);
+    while steps.len() < count {
+        steps.push(None)?;
     }
+    Ok(steps)
 }
 
 /// The marks that a walk has given, and of each the step by which it was: those that stand for the
@@ -79,19 +74,21 @@ pub(crate) struct Trail {
 }
 
 impl Trail {
-    // Gives each of the nodes this mark, with this step.
+    // Gives each of the nodes this mark, with the step over the crossing.
     fn give(
         &mut self,
         alloc: Global,
         nodes: &[Node],
         mark: Mark,
-        step: Option<Step>,
+        crossing: &Crossing,
+        info: &NodeInfo,
     ) -> Result<(), AllocError>
         ensures longer { OnOk result (length self.old.marks ≤ length self.new.marks) }
-        ensures gives { OnOk result (GivesMarks (IsOneOf nodes.now mark) step self.old self.new) }
+        ensures gives { OnOk result (GivesMarks (IsOneOf nodes.now mark)
+            (Some (step_by crossing.now info.now)) self.old self.new) }
     {
         self.marks.add_all(alloc, nodes, mark)?;
-        fill(alloc, &mut self.steps, self.marks.len(), step)?;
+        fill(alloc, &mut self.steps, self.marks.len(), crossing, info)?;
         Ok(())
     }
 
@@ -99,14 +96,14 @@ impl Trail {
     fn mark_person(
         &mut self,
         alloc: Global,
-        crossing: Crossing,
-        info: NodeInfo,
+        crossing: &Crossing,
+        info: &NodeInfo,
     ) -> Result<(), AllocError>
         ensures longer { OnOk result (length self.old.marks ≤ length self.new.marks) }
         ensures gives { OnOk result
-            (GivesUnlessThere (record { node = crossing.link.party; mark = Holder })
-            (λ n. n ≡ record { node = crossing.link.party; mark = Holder })
-            (Some (step_by crossing info)) self.old self.new) }
+            (GivesUnlessThere (record { node = crossing.now.link.party; mark = Holder })
+            (λ n. n ≡ record { node = crossing.now.link.party; mark = Holder })
+            (Some (step_by crossing.now info.now)) self.old self.new) }
     {
         let marked = Marked {
             node: crossing.link.party.copy(alloc)?,
@@ -116,8 +113,7 @@ impl Trail {
         if !is_new {
             return Ok(());
         }
-        let step = Some(step_over(crossing, info));
-        fill(alloc, &mut self.steps, self.marks.len(), step)?;
+        fill(alloc, &mut self.steps, self.marks.len(), crossing, info)?;
         Ok(())
     }
 
@@ -126,16 +122,16 @@ impl Trail {
         &mut self,
         alloc: Global,
         source: &mut S,
-        crossing: Crossing,
+        crossing: &Crossing,
     ) -> Result<(), WalkFault<S::Fault>>
         ensures longer { OnOk result (length self.old.marks ≤ length self.new.marks) }
         ensures same_reference { S.lender source.new ≡ S.lender source.old }
         ensures kept { Kept S.meaning source.old source.new }
         ensures accounted { WalkAccounts S.meaning source.old source.new result }
         ensures walked { OnOk result (Promised S.meaning source.old source.new (λ m.
-            GivesUnlessThere (record { node = crossing.link.party; mark = Middle })
-            (IsSameAs (S.shown m) crossing.link.party Middle)
-            (Some (step_by crossing (infos.Entity true))) self.old self.new)) }
+            GivesUnlessThere (record { node = crossing.now.link.party; mark = Middle })
+            (IsSameAs (S.shown m) crossing.now.link.party Middle)
+            (Some (step_by crossing.now (infos.Entity true))) self.old self.new)) }
     {
         let marked = Marked {
             node: crossing.link.party.copy(alloc)?,
@@ -148,8 +144,8 @@ impl Trail {
             Ok(nodes) => nodes,
             Err(fault) => return Err(WalkFault::Source(fault)),
         };
-        let step = Some(step_over(crossing, NodeInfo::Entity { legal: true }));
-        self.give(alloc, &nodes, Mark::Middle, step)?;
+        let info = NodeInfo::Entity { legal: true };
+        self.give(alloc, &nodes, Mark::Middle, crossing, &info)?;
         Ok(())
     }
 
@@ -158,7 +154,7 @@ impl Trail {
         &mut self,
         alloc: Global,
         source: &mut S,
-        crossing: Crossing,
+        crossing: &Crossing,
     ) -> Result<(), WalkFault<S::Fault>>
         ensures longer { OnOk result (length self.old.marks ≤ length self.new.marks) }
         ensures same_reference { S.lender source.new ≡ S.lender source.old }
@@ -166,13 +162,13 @@ impl Trail {
         ensures accounted { WalkAccounts S.meaning source.old source.new result }
         ensures walked { OnOk result (Promised S.meaning source.old source.new (λ m.
             AreWhole (S.shown m) self.old.marks → AreWhole (S.shown m) self.new.marks
-            × Follows (S.shown m) crossing self.old self.new)) }
+            × Follows (S.shown m) crossing.now self.old self.new)) }
     {
         match source.node(&crossing.link.party) {
             Err(fault) => Err(WalkFault::Source(fault)),
             Ok(None) => Ok(()),
             Ok(Some(NodeInfo::Person(info))) => {
-                self.mark_person(alloc, crossing, NodeInfo::Person(info))?;
+                self.mark_person(alloc, crossing, &NodeInfo::Person(info))?;
                 Ok(())
             }
             Ok(Some(NodeInfo::Entity { legal: false })) => Ok(()),
@@ -201,7 +197,9 @@ impl Trail {
             self.old self.new)) }
     {
         for crossing in crossings {
-            self.follow(alloc, source, crossing)?;
+            let followed = self.follow(alloc, source, &crossing);
+            drop(crossing);
+            followed?;
         }
         Ok(())
     }
@@ -246,12 +244,10 @@ fn begin<S: LinkSource>(
         Ok(nodes) => nodes,
         Err(fault) => return Err(WalkFault::Source(fault)),
     };
-    let mut trail = Trail {
-        marks: Marks::new(alloc),
-        steps: Vec::new(alloc),
-    };
-    trail.give(alloc, &nodes, Mark::Target, None)?;
-    Ok(trail)
+    let mut marks = Marks::new(alloc);
+    marks.add_all(alloc, &nodes, Mark::Target)?;
+    let steps = without_steps(alloc, marks.len())?;
+    Ok(Trail { marks, steps })
 }
 
 /// Walks from an entity until a level adds nothing. Each mark is given once, by the first link of

@@ -1,7 +1,7 @@
 //! The words that clap is given.
 
-ghost use Rattle.std.specs.Prelude.{◌≡◌, IfOk, codes, false};
-ghost use Rattle.clap.specs.Words.{app_of, rule_of};
+ghost use Rattle.std.specs.Prelude.{◌≡◌, IfOk, IsOkAnd, codes, false};
+ghost use Rattle.clap.specs.Words.{AddsSubcommand, app_of, rule_of};
 ghost use Rattle.clap.specs.declared.builder.command.Command.TheViews.{out-Command as fields_of};
 ghost use Rattle.bor_words.specs.Words.{bor_app, check_app, exchange_app, files_rule, flag_rule, init_app, migrate_app, option_rule, report_app, required_rule, serve_app, with_entity, with_setup};
 
@@ -245,19 +245,30 @@ fn migrate<'a>(alloc: Global) -> Result<Parser<'a>, AllocError>
         .arg(register_file(alloc, "The register's file"))
 }
 
+// The parser with a command more, where that was made.
+fn with_command<'a>(
+    parser: Parser<'a>,
+    command: Result<Parser<'a>, AllocError>,
+) -> Result<Parser<'a>, AllocError>
+    ensures { IfOk result (λ more. IsOkAnd command.entry (λ made.
+        AddsSubcommand parser.entry made more)) }
+{
+    parser.subcommand(command?)
+}
+
 /// The words that `bor` takes.
 pub fn parser<'a>(alloc: Global) -> Result<Parser<'a>, AllocError>
     ensures { IfOk result (λ parser. app_of parser ≡ bor_app) }
 {
-    Parser::new(alloc, "bor")
+    let parser = Parser::new(alloc, "bor")
         .bin_name("bor")?
         .no_binary_name(true)
         .about("A register of beneficial ownership")
-        .after_help("Without a command, standard input is checked. The pages of the commands:")
-        .subcommand(check(alloc)?)?
-        .subcommand(init(alloc)?)?
-        .subcommand(exchange(alloc)?)?
-        .subcommand(serve(alloc)?)?
-        .subcommand(report(alloc)?)?
-        .subcommand(migrate(alloc)?)
+        .after_help("Without a command, standard input is checked. The pages of the commands:");
+    let parser = with_command(parser, check(alloc))?;
+    let parser = with_command(parser, init(alloc))?;
+    let parser = with_command(parser, exchange(alloc))?;
+    let parser = with_command(parser, serve(alloc))?;
+    let parser = with_command(parser, report(alloc))?;
+    with_command(parser, migrate(alloc))
 }

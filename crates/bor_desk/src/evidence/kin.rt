@@ -101,7 +101,9 @@ impl Kin {
         let Some(row) = keep.open_row(viewer, day, node)? else {
             return Ok(());
         };
-        let Some(one) = node_of(alloc, &row)? else {
+        let made = node_of(alloc, &row);
+        drop(row);
+        let Some(one) = made? else {
             return Ok(());
         };
         if !one.info.is_entity() {

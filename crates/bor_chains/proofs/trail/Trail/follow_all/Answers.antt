@@ -22,17 +22,17 @@ pub loop-crossing-preserved : goal.loop-crossing-preserved
 loop-crossing-preserved g c =
     let invariant = c.loop-crossing.invariant in
     record {
-      longer = omega (arith, invariant.longer, c.in_ok-follow.ensures.longer);
-      same_reference = cc (c.follow.ensures.same_reference, invariant.same_reference);
-      kept = kept_then _ _ _ _ invariant.kept c.follow.ensures.kept;
-      lasts = lasts_then _ _ _ _ invariant.lasts c.in_ok-follow.ensures.accounted.lasts;
-      counts = cc (c.in_ok-follow.ensures.accounted.counts, invariant.counts);
+      longer = omega (arith, invariant.longer, c.in_ok-followed.ensures.longer);
+      same_reference = cc (c.follow-followed.ensures.same_reference, invariant.same_reference);
+      kept = kept_then _ _ _ _ invariant.kept c.follow-followed.ensures.kept;
+      lasts = lasts_then _ _ _ _ invariant.lasts c.in_ok-followed.ensures.accounted.lasts;
+      counts = cc (c.in_ok-followed.ensures.accounted.counts, invariant.counts);
       walked = λ m e k beside whole.
           let s = g.S.LinkSource.shown m in
-          let clean = c.follow.ensures.kept.began k in
+          let clean = c.follow-followed.ensures.kept.began k in
           let before = invariant.walked m e clean beside whole in
-          let more = c.in_ok-follow.ensures.walked m ((invariant.kept.same clean m).0 e) k before.0 in
-          (more.0, to_next s c.loop-crossing.yielded c.in-Some.crossing c.args.self.now c.loop-crossing.self c.follow.new.self beside before.1 more.1);
+          let more = c.in_ok-followed.ensures.walked m ((invariant.kept.same clean m).0 e) k before.0 in
+          (more.0, to_next s c.loop-crossing.yielded c.in-Some.crossing c.args.self.now c.loop-crossing.self c.follow-followed.new.self beside before.1 more.1);
     }
 
 pub returns-clause-walked : goal.returns-clause-walked

@@ -1,11 +1,10 @@
-use Rattle.std.proofs.Common.{◌≡◌, true, false, List, ℕ, length, sym, ◌∙◌, Option, Some, ap, subst, inl, inr, Contains}
+use Rattle.std.proofs.Common.{◌≡◌, true, false, List, ℕ, sym, ◌∙◌, Some, ap, subst, inl, inr, Contains}
 use Rattle.bor_records.specs.declared.links.node.Node.{Node}
 use Rattle.bor_records.specs.Links.Growth.{Grown}
 use Rattle.bor_chains.specs.declared.marks.Mark.TheVariants.{Holder}
 use Rattle.bor_chains.specs.declared.marks.Marked.{Marked}
-use Rattle.bor_chains.specs.declared.trail.Step.{Step}
 use Rattle.bor_chains.specs.declared.trail.Trail.{Trail}
-use Rattle.bor_chains.specs.Trail.{IsFilled}
+use Rattle.bor_chains.specs.Trail.{step_by, IsFilled}
 use Rattle.bor_chains.proofs.trail.Trail.mark_person.Goals as goal
 
 pub returns-then-not-is_new-clause-gives : goal.returns-then-not-is_new-clause-gives
@@ -24,8 +23,7 @@ returns-clause-gives c = elim c.in_ok-is_new.ensures.is_new [
     (λ h. p.1 (subst (λ (n : Node). Contains c.args.self.now.marks (record { node = n; mark = Holder })) (sym c.in_ok-copy.ensures) h)),
     record {
       marks = subst (λ (n : Node). Grown (λ m. m ≡ record { node = n; mark = Holder }) c.args.self.now.marks c.add.new.self) c.in_ok-copy.ensures c.in_ok-is_new.ensures.grown;
-      steps = subst (λ (o : Option Step). IsFilled (length c.add.new.self) o c.args.self.now.steps.items c.fill.new.steps.items) (ap (λ (x : Step). Some x) c.step_over.ensures)
-          (subst (λ (n : ℕ). IsFilled n (Some c.step_over.result) c.args.self.now.steps.items c.fill.new.steps.items) c.len.ensures c.in_ok-fill.ensures);
+      steps = subst (λ (n : ℕ). IsFilled n (Some (step_by c.args.crossing.now c.args.info.now)) c.args.self.now.steps.items c.fill.new.steps.items) c.len.ensures c.in_ok-fill.ensures;
     },
   )
 ]
