@@ -9,11 +9,12 @@ ghost use Rattle.sqlite_wal.specs.Files.{image_at};
 ghost use Rattle.bor_program.specs.Deeds.{Moves};
 ghost use Rattle.bor.specs.Machine.{FindsOrSetsUp, IsDeedDone, IsMoved, opening_failure};
 
+use crate::served::ServedRegister;
 use crate::setup::find_or_set_up;
 use crate::waiting::{Waiting, time};
+use bor_desk::mirror::Notice;
 use bor_desk::operations::Keep;
-use bor_program::{Failure, Opened, Ports, Registers, Stage};
-use bor_served::{Notice, ServedKeep};
+use bor_program::{Answering, Failure, Opened, Ports, Registers, Stage};
 use bor_store::{OpenFault, SqlKeep, close_files, connect, migrate, statements_within};
 use bor_terms::{Day, Token};
 use mio::net;
@@ -35,7 +36,7 @@ const MANY: usize = 20;
 const LARGE: u64 = 33_554_432;
 
 /// A register in a file that is open, and in memory beside it where it is served from there.
-pub type Served<'r, S> = ServedKeep<FileStore<FileFrom<S>>, Telling<'r>>;
+pub type Served<'r, S> = ServedRegister<FileStore<FileFrom<S>>, Telling<'r>>;
 
 /// The host: it opens registers in files of SQLite, and listens on ports of 127.0.0.1. `S` stands
 /// for what a file and its log hold as they are opened. Where standard error is a terminal, it
@@ -108,8 +109,8 @@ impl Notice for Telling<'_> {
 impl<'r, S: Start + Copy> Registers for Host<'r, S> {
     type Register = Served<'r, S>;
 
-    ghost does = { let keep = ⟦<Served<'r, S> as Keep>⟧ in
-        λ _ deed _. IsDeedDone keep.meaning (λ k. k.keep.0.conn)
+    ghost does = { let served = ⟦<Served<'r, S> as Answering>⟧ in
+        λ _ deed _. IsDeedDone served.meaning (λ k. k.keep.0.conn)
         (λ c. (closed : _) × IsClosing c closed)
         (HoldsRegister (image_at S.Start))
         (λ opened left. IsMoved (image_at S.Start) (file_state opened) (file_state left)) deed };
@@ -232,12 +233,12 @@ fn open_in<'r, S: Start>(
     most: u32,
     log: bool,
 ) -> Result<Served<'r, S>, OpenFault>
-    ensures { let keep = ⟦<Served<'r, S> as Keep>⟧ in
-        IfOk result (λ register. keep.meaning.is_clean register → (r : Register)
-        → HoldsRegister (image_at S.Start) r → keep.meaning.shows register r) }
+    ensures { let served = ⟦<Served<'r, S> as Answering>⟧ in
+        IfOk result (λ register. served.meaning.is_clean register → (r : Register)
+        → HoldsRegister (image_at S.Start) r → served.meaning.shows register r) }
 {
     let store = SqlKeep::open(rt, path, start)?;
-    Ok(ServedKeep::new(store, most, Telling { rt, log }))
+    Ok(ServedRegister::new(store, most, Telling { rt, log }))
 }
 
 // The register in the file of this name, with a mirror where there is room for one, which is told.
@@ -247,9 +248,9 @@ fn filled_in<'r, S: Start + Copy>(
     most: u32,
     log: bool,
 ) -> Result<Served<'r, S>, OpenFault>
-    ensures { let keep = ⟦<Served<'r, S> as Keep>⟧ in
-        IfOk result (λ register. keep.meaning.is_clean register → (r : Register)
-        → HoldsRegister (image_at S.Start) r → keep.meaning.shows register r) }
+    ensures { let served = ⟦<Served<'r, S> as Answering>⟧ in
+        IfOk result (λ register. served.meaning.is_clean register → (r : Register)
+        → HoldsRegister (image_at S.Start) r → served.meaning.shows register r) }
 {
     let mut register = open_in(host.rt, path, host.start, most, log)?;
     host.reach(Stage::Filling);
@@ -283,14 +284,14 @@ fn opened_in<'r, S: Start>(
     registrar: &Token,
     day: Day,
 ) -> Result<Opened<Served<'r, S>>, OpenFault>
-    ensures { let keep = ⟦<Served<'r, S> as Keep>⟧ in
+    ensures { let served = ⟦<Served<'r, S> as Answering>⟧ in
         IfOk result (λ opened.
-        FindsOrSetsUp keep.meaning (HoldsRegister (image_at S.Start)) registrar.now day
+        FindsOrSetsUp served.meaning (HoldsRegister (image_at S.Start)) registrar.now day
         opened.register opened.origin) }
 {
     let Opened { register, origin } = found_or_set_up(rt, path, start, registrar, day)?;
     Ok(Opened {
-        register: ServedKeep::new(register, 0, Telling { rt, log: false }),
+        register: ServedRegister::new(register, 0, Telling { rt, log: false }),
         origin,
     })
 }

@@ -2,6 +2,7 @@
 #![tactic(auto)]
 
 mod host;
+mod served;
 mod setup;
 mod start;
 mod waiting;

@@ -8,3 +8,4 @@ pub mod Replies
 pub mod Performed
 pub mod Logged
 pub mod OnConnections
+pub mod Carried

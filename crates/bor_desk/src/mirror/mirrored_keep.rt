@@ -1,6 +1,6 @@
 //! A keep and its mirror.
 
-ghost use Rattle.std.specs.Prelude.{◌≡◌, ◌≤◌, ◌-◌, ⊤, [], IfSome, IsSome, None, Ok, is_some, length, min, option_map};
+ghost use Rattle.std.specs.Prelude.{◌≡◌, ◌≤◌, ◌-◌, ⊤, [], IfSome, IsSome, None, Ok, length, min, option_map};
 ghost use Rattle.std.specs.Fn.{FnOnceReturnsAtMut};
 ghost use Rattle.bor_records.specs.Promises.{Kept, StaysClean};
 ghost use Rattle.bor_register.specs.Additions.{MayEnrol, MayFile, with_agent, with_filing, with_renewal, with_withdrawal};
@@ -11,6 +11,7 @@ ghost use Rattle.bor_desk.specs.Mirror.Following.{IsFollowed};
 ghost use Rattle.bor_desk.specs.Mirror.Reading.{IsReadOfEither};
 
 use crate::mirror::mirror_store::MirrorStore;
+use crate::mirror::notice::Notice;
 use bods_read::{Identifier, Statement};
 use bor_records::links::{Link, Node, NodeInfo};
 use bor_records::{Last, Row};
@@ -25,12 +26,14 @@ use std::marker::Model;
 /// Reads that need no file are answered by the mirror, where it is there and has the memory for the
 /// answer; the others by the store. So a fault is always the store's. A change goes to the store,
 /// and then to the mirror; where memory is wanting for the mirror's, or it would have taken more
-/// statements than it may, the mirror is let go, and all is asked of the store from then on. Who
-/// has a token is answered by the mirror as long as no call of the store has answered a fault since
-/// the store last said who has one: a store that has shut answers no request.
+/// statements than it may, the mirror is let go, a [`Notice`] is given, and all is asked of the
+/// store from then on. Who has a token is answered by the mirror as long as no call of the store
+/// has answered a fault since the store last said who has one: a store that has shut answers no
+/// request.
 #[derive(Drop)]
-pub struct MirroredKeep<K: MirrorStore + Drop> {
+pub struct MirroredKeep<K: MirrorStore + Drop, N: Notice + Drop> {
     store: K,
+    notice: N,
     // The live statements that a mirror may hold as it is made.
     most: u32,
     // How many more it may take. Those of a withdrawn filing count on: the maps keep their places.
@@ -39,7 +42,7 @@ pub struct MirroredKeep<K: MirrorStore + Drop> {
     is_up: bool,
 }
 
-impl<K: MirrorStore + Drop> Model for MirroredKeep<K> {
+impl<K: MirrorStore + Drop, N: Notice + Drop> Model for MirroredKeep<K, N> {
     ghost use Rattle.std.specs.Prelude.{◌≡◌, Option, option_map, true};
     ghost use Rattle.bor_register.specs.Memory.Holding.{Holding};
     ghost use Rattle.bor_register.specs.Register.{Register};
@@ -54,13 +57,15 @@ impl<K: MirrorStore + Drop> Model for MirroredKeep<K> {
         → K.meaning.is_sound k.store → K.meaning.is_clean k.store };
 }
 
-impl<K: MirrorStore + Drop> MirroredKeep<K> {
-    /// The store, without a mirror. One that is made later holds at most so many live statements.
-    pub fn new(store: K, most: u32) -> Self
+impl<K: MirrorStore + Drop, N: Notice + Drop> MirroredKeep<K, N> {
+    /// The store, without a mirror. One that is made later holds at most so many live statements;
+    /// the notice is given where it is let go.
+    pub fn new(store: K, most: u32, notice: N) -> Self
         ensures { result ≡ (store, None) }
     {
         MirroredKeep {
             store,
+            notice,
             most,
             room: 0,
             mirror: None,
@@ -73,13 +78,6 @@ impl<K: MirrorStore + Drop> MirroredKeep<K> {
         ensures { result ≡ self.0 }
     {
         self.store
-    }
-
-    /// Whether there is a mirror.
-    pub fn is_mirrored(&self) -> bool
-        ensures { result ≡ is_some self.now.1 }
-    {
-        self.mirror.is_some()
     }
 
     /// How many live statements the mirror holds, and `usize::MAX` of more; `None` where there is
@@ -98,7 +96,7 @@ impl<K: MirrorStore + Drop> MirroredKeep<K> {
     /// more live statements than it may hold, there is memory for it, and the store tells its
     /// register.
     pub fn fill(&mut self)
-        ensures { Kept ⟦<MirroredKeep<K> as Keep>⟧.meaning
+        ensures { Kept ⟦<MirroredKeep<K, N> as Keep>⟧.meaning
             self.old self.new }
     {
         if self.most == 0 || self.mirror.is_some() {
@@ -113,6 +111,13 @@ impl<K: MirrorStore + Drop> MirroredKeep<K> {
             Err(_) => {
                 self.is_up = false;
             }
+        }
+    }
+
+    // Has it noticed where there was a mirror and no longer is.
+    fn notice_from(&self, was_mirrored: bool) {
+        if was_mirrored && self.mirror.is_none() {
+            self.notice.let_go();
         }
     }
 
@@ -221,7 +226,7 @@ fn renewed(mirror: Option<ListKeep>, agent: &AgentName, token: &Token) -> Option
     }
 }
 
-impl<K: MirrorStore + Drop> Keep for MirroredKeep<K> {
+impl<K: MirrorStore + Drop, N: Notice + Drop> Keep for MirroredKeep<K, N> {
     ghost use Rattle.bor_desk.specs.Mirror.Following.{mirrored};
 
     ghost Left = { K.Left };
@@ -429,9 +434,11 @@ impl<K: MirrorStore + Drop> Keep for MirroredKeep<K> {
             .add_filing(agent, count, key, due, bytes, statements)
         {
             Ok(()) => {
+                let was_mirrored = self.mirror.is_some();
                 let mirror = self.mirror.take();
                 self.mirror = filed(mirror, self.room, agent, count, key, due, statements);
                 self.room = self.room.saturating_sub(statements.len());
+                self.notice_from(was_mirrored);
                 Ok(())
             }
             Err(fault) => {
@@ -444,7 +451,9 @@ impl<K: MirrorStore + Drop> Keep for MirroredKeep<K> {
     fn withdraw(&mut self, agent: &AgentName, number: u32) -> Result<(), StoreFault> {
         match self.store.withdraw(agent, number) {
             Ok(()) => {
+                let was_mirrored = self.mirror.is_some();
                 self.mirror = withdrawn(self.mirror.take(), agent, number);
+                self.notice_from(was_mirrored);
                 Ok(())
             }
             Err(fault) => {
@@ -457,7 +466,9 @@ impl<K: MirrorStore + Drop> Keep for MirroredKeep<K> {
     fn set_day(&mut self, day: Day) -> Result<(), StoreFault> {
         match self.store.set_day(day) {
             Ok(()) => {
+                let was_mirrored = self.mirror.is_some();
                 self.mirror = dated(self.mirror.take(), day);
+                self.notice_from(was_mirrored);
                 Ok(())
             }
             Err(fault) => {
@@ -470,7 +481,9 @@ impl<K: MirrorStore + Drop> Keep for MirroredKeep<K> {
     fn add_agent(&mut self, agent: &AgentName, token: &Token) -> Result<(), StoreFault> {
         match self.store.add_agent(agent, token) {
             Ok(()) => {
+                let was_mirrored = self.mirror.is_some();
                 self.mirror = enrolled(self.mirror.take(), agent, token);
+                self.notice_from(was_mirrored);
                 Ok(())
             }
             Err(fault) => {
@@ -483,7 +496,9 @@ impl<K: MirrorStore + Drop> Keep for MirroredKeep<K> {
     fn set_token(&mut self, agent: &AgentName, token: &Token) -> Result<(), StoreFault> {
         match self.store.set_token(agent, token) {
             Ok(()) => {
+                let was_mirrored = self.mirror.is_some();
                 self.mirror = renewed(self.mirror.take(), agent, token);
+                self.notice_from(was_mirrored);
                 Ok(())
             }
             Err(fault) => {

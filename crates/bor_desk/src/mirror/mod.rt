@@ -5,16 +5,19 @@
 //! the mirror; a question that needs no file is answered by the mirror, and any other by the store:
 //!
 //! ```
-//! let mut keep = MirroredKeep::new(store, 200_000);
+//! let mut keep = MirroredKeep::new(store, 200_000, notice);
 //! keep.fill();
 //! answer(alloc, &mut keep, &token, &Request::Agent(AgentRequest::Published)); // the store isn't asked
 //! ```
 //!
 //! A store that can be mirrored is a [`MirrorStore`]. What the mirror holds is bounded: where it
-//! would be more, or memory is wanting, it is let go, and all is asked of the store.
+//! would be more, or memory is wanting, it is let go, all is asked of the store, and a [`Notice`]
+//! is given.
 
 mod mirror_store;
 mod mirrored_keep;
+mod notice;
 
 pub use mirror_store::MirrorStore;
 pub use mirrored_keep::MirroredKeep;
+pub use notice::Notice;
