@@ -4,7 +4,7 @@ use Rattle.std.specs.List.{AllByRecursion, flat_map}
 use Rattle.std.specs.Ordering.{is_eq, int_cmp}
 use Rattle.std.proofs.lemmas.Int.{ints}
 use Rattle.std.proofs.lemmas.Bool.Decides.{nat_tests}
-use Rattle.std.proofs.Math.Bool.{and-true}
+use Rattle.std.proofs.Math.Bool.{and-false, and-true}
 use Rattle.std.proofs.lemmas.List.{map-append}
 use Rattle.std.proofs.lemmas.List.Elements.{filter-append}
 use Rattle.sqlite.specs.declared.types.Value.TheVariants.{Int, Text}
@@ -65,7 +65,13 @@ place_params at = Text at.agent ∷ Int (pos at.filing) ∷ Int (pos at.place) �
 
 -- the first three columns are those of the place
 pub place_test : (a b : At) → (are_equal (Text a.agent) (Text b.agent) && (are_equal (Int (pos a.filing)) (Int (pos b.filing)) && (are_equal (Int (pos a.place)) (Int (pos b.place)) && true))) ≡ same_place a b
-place_test a b = ap₂ (λ x y. x && y) (text_test a.agent b.agent) (ap₂ (λ x y. x && y) (int_test (pos a.filing) (pos b.filing) ∙ number_test a.filing b.filing) (and-true _ ∙ int_test (pos a.place) (pos b.place) ∙ number_test a.place b.place))
+place_test a b =
+    ap₂ (λ x y. x && y) (text_test a.agent b.agent) (ap₂ (λ x y. x && y) (int_test (pos a.filing) (pos b.filing) ∙ number_test a.filing b.filing) (and-true _ ∙ int_test (pos a.place) (pos b.place) ∙ number_test a.place b.place))
+    ∙ turned (is_same a.agent b.agent) (a.filing == b.filing) (a.place == b.place)
+  where
+    turned : (x y z : Bool) → x && (y && z) ≡ y && (z && x)
+    turned true y z = ap (λ b. y && b) (sym (and-true z))
+    turned false y z = sym (ap (λ b. y && b) (and-false z) ∙ and-false y)
 
 module _ {X : Type 0} (at_of : X → At) (t : At → Bool) (rows : Placed → List X) (own : (p : Placed) → AllByRecursion (λ x. at_of x ≡ p.at) (rows p)) where
   passed : (p : Placed) (b : Bool) → t p.at ≡ b → AllByRecursion (λ x. t (at_of x) ≡ b) (rows p)

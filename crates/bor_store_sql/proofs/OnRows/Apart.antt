@@ -22,13 +22,13 @@ abbrev AllOff : At → List Placed → Type 0
 AllOff at qs = AllByRecursion (λ (q : Placed). same_place q.at at ≡ false) qs
 
 off_number : (a b : At) → (a.filing == b.filing) ≡ false → same_place a b ≡ false
-off_number a b e = rw e (and-false (is_same a.agent b.agent))
+off_number a b e = rw e refl
 
 off_place : (a b : At) → (a.place == b.place) ≡ false → same_place a b ≡ false
-off_place a b e = rw (e, and-false (a.filing == b.filing)) (and-false (is_same a.agent b.agent))
+off_place a b e = rw e (and-false (a.filing == b.filing))
 
 off_name : (a b : At) → is_same a.agent b.agent ≡ false → same_place a b ≡ false
-off_name a b e = rw e refl
+off_name a b e = rw (e, and-false (a.place == b.place)) (and-false (a.filing == b.filing))
 
 apart_in : (agent : List ℕ) (filing n : ℕ) (ss : List Statement) → AreApart (placed_from agent filing n ss)
 apart_in agent filing n [] = tt

@@ -46,7 +46,7 @@ filing_lines (m ∷ ms) = map (filing_row m.name) m.filings ++ filing_lines ms
 -- ---- where a statement stands
 
 abbrev pub same_place : At → At → Bool
-same_place a b = is_same a.agent b.agent && (a.filing == b.filing && a.place == b.place)
+same_place a b = a.filing == b.filing && (a.place == b.place && is_same a.agent b.agent)
 
 -- ---- the rows of the tables for a statement
 

@@ -1,7 +1,6 @@
 //! Which filing, and where a statement stands.
 
 ghost use Rattle.std.specs.Prelude.{◌≡◌};
-ghost use Rattle.bor_store_sql.specs.Rows.Placed.{same_place};
 
 use bor_terms::AgentName;
 
@@ -35,14 +34,5 @@ impl FilingKey {
             filing: self.number,
             place: 0,
         }
-    }
-}
-
-impl At {
-    /// Whether both are the same.
-    pub fn is(&self, other: &At) -> bool
-        ensures { result ≡ same_place self.now other.now }
-    {
-        self.agent == other.agent && self.filing == other.filing && self.place == other.place
     }
 }

@@ -36,7 +36,7 @@ pub(crate) fn split_interests<'a>(
         → AllByRecursion (λ row. same_place row.at at.now ≡ false) more
         → (result.0.now ≡ mine) × (result.1.now ≡ more) }
 {
-    split_own(rows, |row| row.at.is(at))
+    split_own(rows, |row| row.at == *at)
 }
 
 /// The rows at this place, and those that follow, where none of them is at it.
@@ -49,7 +49,7 @@ pub(crate) fn split_identifiers<'a>(
         → AllByRecursion (λ row. same_place row.at at.now ≡ false) more
         → (result.0.now ≡ mine) × (result.1.now ≡ more) }
 {
-    split_own(rows, |row| row.at.is(at))
+    split_own(rows, |row| row.at == *at)
 }
 
 /// The interests of these rows.

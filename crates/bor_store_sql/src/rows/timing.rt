@@ -12,7 +12,7 @@ use std::alloc::{AllocError, Global};
 fn is_of(period: &PeriodRow, line: &InterestLine) -> bool
     ensures { result ≡ same_interest period.now.at period.now.item line.now.at line.now.item }
 {
-    period.item == line.item && period.at.is(&line.at)
+    period.item == line.item && period.at == line.at
 }
 
 // The days of the interest: those of the first row where it is the interest's, else none.
