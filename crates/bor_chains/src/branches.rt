@@ -1,6 +1,6 @@
 //! From the steps of a walk to the persons and links of its evidence.
 
-ghost use Rattle.std.specs.Prelude.{◌≡◌, ◌+◌, ◌++◌, ◌<◌, ◌≤◌, Bool, false, Contains, Some, None, OnOk, IfOk, IfSome, IfNone, length};
+ghost use Rattle.std.specs.Prelude.{◌≡◌, ◌+◌, ◌++◌, ◌<◌, ◌≤◌, Bool, false, true, Contains, Some, None, OnOk, IfOk, IfSome, IfNone, length};
 ghost use Rattle.std.specs.List.{slice_get};
 ghost use Rattle.bor_chains.specs.Branches.{step_down, step_link, persons_by, persons_at, links_at, IsCount, AreCounts, AreNeeded, ArePersonsFrom, AreLinksFrom};
 
@@ -131,6 +131,25 @@ impl Branches {
         }
     }
 
+    // Adds a step's link and, where it leads to one, a person. `below` are the steps before it.
+    fn add_step(
+        &mut self,
+        alloc: Global,
+        below: &[Option<Step>],
+        step: Step,
+        links: u64,
+    ) -> Result<(), AllocError>
+        ensures persons { OnOk result (self.new.persons.items
+            ≡ self.old.persons.items ++ persons_by step.info step.link links) }
+        ensures links { OnOk result (self.new.links.items
+            ≡ self.old.links.items ++ links_at true (Some step) below.now) }
+    {
+        let next = link_at(alloc, below, step.below)?;
+        let Step { link, info, .. } = step;
+        self.add_person(alloc, info, &link, links)?;
+        Ok(self.links.push(EvidenceLink { link, next })?)
+    }
+
     // Adds what a step tells, where it leads down from a person. `below` are the steps before it.
     fn add(
         &mut self,
@@ -146,16 +165,7 @@ impl Branches {
             ≡ self.old.links.items ++ links_at needed step below.now) }
     {
         match step {
-            Some(step) if needed => {
-                let next = link_at(alloc, below, step.below)?;
-                self.add_person(alloc, step.info, &step.link, links)?;
-                Ok(
-                    self.links.push(EvidenceLink {
-                        link: step.link,
-                        next,
-                    })?,
-                )
-            }
+            Some(step) if needed => self.add_step(alloc, below, step, links),
             _ => Ok(()),
         }
     }
