@@ -1,5 +1,5 @@
 -- The facts on words that follow from the answer to them and from a failure.
-use Rattle.std.proofs.Common.{◌≡◌, ◌≢◌, ℕ, List, Option, Some, None, codes, refl, subst, sym, inl, inr}
+use Rattle.std.proofs.Common.{◌≡◌, ◌≢◌, ℕ, List, Option, Some, None, codes, refl, subst, inl, inr}
 use Rattle.clap.specs.Words.{IsAmong, Kinds, kind_of}
 use Rattle.clap.specs.declared.error.kind.ErrorKind.TheVariants.{DisplayHelp, OutOfMemory}
 use Rattle.bor_words.specs.declared.unread.Unread.{Unread}
@@ -8,11 +8,8 @@ use Rattle.bor_words.specs.Asked.{IsCommand, IsWrong}
 use Rattle.bor_words.specs.Unread.{IsFaultOfWords, kind_of_answer}
 use Rattle.bor_words.specs.Values.{first_unfit, values_of}
 use Rattle.bor_words.specs.Words.{entered_by}
-use Rattle.bor_program.specs.declared.failure.Failure.{Failure}
 use Rattle.bor_program.specs.declared.status.Status.{Status}
 use Rattle.bor_program.specs.declared.status.Status.TheVariants.{Done, Refused, Usage, Failed}
-use Rattle.bor_program.specs.Failures.{IsFailureWritten, failure_line}
-use Rattle.bor_program.specs.Streams.{AppendsPart}
 use Rattle.bor_program.specs.Program.{exit_code}
 
 no_value : {A : Type 0} (o : Option A) (x : A) → o ≡ None → o ≡ Some x → ⊥
@@ -42,9 +39,3 @@ usage_of Done e = cc
 usage_of Refused e = cc
 usage_of Usage e = refl
 usage_of Failed e = cc
-
--- a failure that was told is told as one of a wider kind
-pub told_as : (Of New : Failure → Type 0) (before after last : Option (List ℕ)) → ((failure : Failure) → Of failure → New failure)
-    → last ≡ after → IsFailureWritten Of before after → IsFailureWritten New before last
-told_as Of New before after last wider e told =
-    (told.0, wider told.0 told.1, subst (λ known. AppendsPart before known (failure_line told.0)) (sym e) told.2)

@@ -1,8 +1,7 @@
 -- Facts that follow on a run from the output of the command that it performed.
 use Rattle.bor_records.specs.Promises.{Meaning}
-use Rattle.std.proofs.Common.{◌≡◌, ℕ, List, Bool, IsSome, IsTrue, ◌∙◌, arith, inl, inr, refl, sym, subst, true, false, if◌then◌else◌}
+use Rattle.std.proofs.Common.{◌≡◌, ℕ, List, Bool, IsTrue, ◌∙◌, arith, inl, inr, refl, sym, subst, true, false, if◌then◌else◌}
 use Rattle.std.specs.Borrow.{Bor}
-use Rattle.std.specs.Io.KnownBytes.{Keeps}
 use Rattle.clap.specs.Words.{Text as Words}
 use Rattle.std.specs.List.{list_any}
 use Rattle.bor_http.specs.Incoming.Message.{request_limit}
@@ -16,8 +15,6 @@ use Rattle.bor_words.specs.declared.command.Command.{Command}
 use Rattle.bor_words.specs.declared.command.Command.TheVariants.{Check, Init, Exchange, Serve, Report, Migrate}
 use Rattle.bor_words.specs.declared.init.Init.{Init as AskedInit}
 use Rattle.bor_words.specs.declared.serve.Serve.{Serve as Asked}
-use Rattle.bor_words.specs.Asked.{IsAsked}
-use Rattle.bor_words.specs.Words.{Entered, file_at}
 use Rattle.bor_program.specs.Performing.{EndsSettingUp, Exchanges, InitsOnceTold, IsDoneOrFailed, Performs, Serves, PrintsRefusal, System, migrated}
 use Rattle.bor_program.specs.declared.host.opened.Origin.{Origin}
 use Rattle.bor_program.specs.declared.host.opened.Origin.TheVariants.{Found, New}
@@ -26,16 +23,6 @@ use Rattle.bor_program.specs.Program.{IsWrittenOrCutOff, report_status}
 use Rattle.bor_program.specs.Streams.{Known, Streams, TakesAtMostPart}
 use Rattle.bor_program.proofs.KnownBytes.{took_none}
 use Rattle.bor_program.proofs.Replies.{no_usage, replies_end}
-
--- where a file is named, standard input is left alone
-pub unread : {M K Left : Type 0} (system : System K Left) (files : Course M (Deed K)) (asked : Command) (entered : Entered) (input rest : Known) (streams : Streams) → IsAsked entered asked → IsSome (file_at entered)
-    → Performs system files asked input rest streams → Keeps input rest
-unread system files (Check source) entered input rest streams h named p = p.1.unread (subst IsSome (sym h.1) named)
-unread system files (Init asked) entered input rest streams h named p = p.0
-unread system files (Exchange asked) entered input rest streams h named p = p.0
-unread system files (Serve asked) entered input rest streams h named p = p.0
-unread system files (Report asked) entered input rest streams h named p = p.0
-unread system files (Migrate asked) entered input rest streams h named p = p.0
 
 pub took : {M K Left : Type 0} (system : System K Left) (files : Course M (Deed K)) (asked : Command) (input rest : Known) (streams : Streams)
     → Performs system files asked input rest streams → TakesAtMostPart input rest

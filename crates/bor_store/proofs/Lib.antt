@@ -1,6 +1,5 @@
 pub mod Kept
 pub mod Lasting
-pub mod Taken
 pub mod Filing
 pub mod Adopting
 pub mod Undamaged

@@ -1,22 +1,17 @@
 -- The statements that are kept of a filing are its own: no other filing of its agent has its number.
 use Rattle.std.proofs.Common.{◌≡◌, ◌⊎◌, inl, inr, ◌+◌, ◌==◌, ℕ, Bool, true, false, cond, List, [], ◌∷◌, append-nil, slice_get, Some, None, refl, sym, ap, subst, ◌∙◌, arith}
-use Rattle.std.specs.Prelude.{◌↔◌, if◌then◌else◌, IsTrue}
+use Rattle.std.specs.Prelude.{◌↔◌, IsTrue}
 use Rattle.std.specs.List.{flat_map}
 use Rattle.bods_read.specs.declared.statement.Statement.{Statement}
-use Rattle.bor_terms.specs.Texts.{is_same}
 use Rattle.bor_register.specs.Register.{Register, filings_of}
 use Rattle.bor_register.specs.declared.filing.AcceptedFiling.{AcceptedFiling}
-use Rattle.bor_register.specs.declared.member.Member.{Member}
 use Rattle.bor_store_sql.specs.Rows.Stored.{AllNumbered, AreNumbered, IsStored}
 use Rattle.bor_store_sql.specs.Fitting.{Fit, statements_kept}
 use Rattle.bor_store_sql.specs.Selected.{numbered}
 use Rattle.bor_store.specs.Migrating.{filed_at}
 use Rattle.bor_store_sql.proofs.OnRows.Each.{none_numbered}
 use Rattle.bor_store_sql.proofs.OnRows.Successors.{is_number}
-
-numbered_of : (agent : List ℕ) (ms : List Member) → AllNumbered ms → AreNumbered 1 (filings_of agent ms)
-numbered_of agent [] h = tt
-numbered_of agent (m ∷ ms) h = elim (is_same m.name agent) as (λ b. AreNumbered 1 (if b then m.filings else filings_of agent ms)) [ true ↦ h.0 | false ↦ numbered_of agent ms h.1 ]
+use Rattle.bor_store_sql.proofs.StoredMembers.{numbered_of}
 
 -- at most one has the number
 abbrev IsAtMost : List AcceptedFiling → Type 0

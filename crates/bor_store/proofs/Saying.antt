@@ -1,7 +1,6 @@
 -- The days that are gathered of a file.
-use Rattle.std.proofs.Common.{◌≡◌, ◌++◌, ℕ, true, false, List, [], append-nil, Option, Some, None, option_map, Result, Ok, Err, OnOk, IfErr, refl, sym, ap, subst, ◌∙◌}
+use Rattle.std.proofs.Common.{◌≡◌, ◌++◌, ℕ, false, List, Option, Some, None, option_map, Result, Ok, Err, OnOk, IfErr, refl, sym, ap, subst, ◌∙◌}
 use Rattle.bods_read.specs.File.{reading}
-use Rattle.bods_read.specs.declared.fault.FileFault.{FileFault}
 use Rattle.bods_read.specs.declared.statement.Statement.{Statement}
 use Rattle.bor_register.specs.Publication.{filing_shown}
 use Rattle.bor_register.specs.declared.filing.AcceptedFiling.{AcceptedFiling}
@@ -19,17 +18,7 @@ use Rattle.bor_store.proofs.Lines.{read_once}
 
 -- ---- one file
 
-read_or_not : (r : Result (List Statement) FileFault) (said : List Statement) (why : FileFault) → r ≡ Ok said → r ≡ Err why → ⊥
-read_or_not r said why h k = cc
-
 module _ (agent : List ℕ) (number : ℕ) (f : AcceptedFiling) (bytes : List ℕ) (same : f.bytes ≡ bytes) (before after : List PeriodRow) where
-  -- where it isn't read it says nothing
-  pub unread : (X : Type 0) (error : ReadError) → (error ≡ errors.Damaged → (why : FileFault) × (reading bytes ≡ Err why)) → (result : Result X ReadError) → (told : ReadError) × (result ≡ Err told) × (told ≡ error)
-      → Gathers (FileSays agent number f) before after result
-  unread X error h result told =
-      subst (Gathers (FileSays agent number f) before after) (sym told.1)
-      (λ damaged days says. (let why = h (sym told.2 ∙ damaged) in read_or_not (reading f.bytes) says.said why.0 says.read (ap reading same ∙ why.1)))
-
   -- where what it is read to doesn't fit it says nothing either
   pub misfit : (X : Type 0) (said : List Statement) → reading bytes ≡ Ok said → (Fit agent number 1 said f.statements → ⊥) → Gathers {X = X} (FileSays agent number f) before after (Err errors.Damaged)
   misfit X said read none = λ damaged days says. none (subst (λ ss. Fit agent number 1 ss f.statements) (read_once (reading f.bytes) says.said said says.read (ap reading same ∙ read)) says.fit)
@@ -43,11 +32,6 @@ module _ (agent : List ℕ) (number : ℕ) (f : AcceptedFiling) (bytes : List �
 -- ---- one line
 
 module _ (ms : List Member) (l : FilingRow) where
-  -- a withdrawn filing says nothing
-  pub withdrawn_gathered : {X : Type 0} (before : List PeriodRow) (x : X) → l.withdrawn ≡ true → Gathers {X = X} (LineSays ms l) before before (Ok x)
-  withdrawn_gathered before x e =
-      ([], subst (λ b. UnlessWithdrawn b (FoundSays l.agent l.number (filed_at l.agent l.number ms)) []) (sym e) refl, sym (append-nil before))
-
   module _ {X : Type 0} (before after : List PeriodRow) (result : Result X ReadError) (live : l.withdrawn ≡ false) where
     of_found : Gathers (FoundSays l.agent l.number (filed_at l.agent l.number ms)) before after result → Gathers (LineSays ms l) before after result
     of_found h = subst (λ b. Gathers (UnlessWithdrawn b (FoundSays l.agent l.number (filed_at l.agent l.number ms))) before after result) (sym live) h
@@ -59,10 +43,3 @@ module _ (ms : List Member) (l : FilingRow) where
         go : (o : Option AcceptedFiling) → filed_at l.agent l.number ms ≡ o → Some file ≡ option_map filing_shown o → Gathers (FoundSays l.agent l.number o) before after result
         go None at e = absurd cc
         go (Some f) at e = let is : file ≡ filing_shown f = cc in h f at (sym (ap (λ (x : Filing). x.bytes) is))
-
-  pub none_gathered : (X : Type 0) (before : List PeriodRow) → l.withdrawn ≡ false → None ≡ option_map filing_shown (filed_at l.agent l.number ms) → Gathers {X = X} (LineSays ms l) before before (Err errors.Damaged)
-  none_gathered X before live found = of_found {X = X} before before (Err errors.Damaged) live (λ damaged. go (filed_at l.agent l.number ms) found)
-    where
-      go : (o : Option AcceptedFiling) → None ≡ option_map filing_shown o → (days : List PeriodRow) → FoundSays l.agent l.number o days → ⊥
-      go None e days says = says
-      go (Some f) e days says = absurd cc

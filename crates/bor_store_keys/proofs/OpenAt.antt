@@ -1,12 +1,9 @@
 -- The statement that a record shows on a day, from the rows of its series.
-use Rattle.std.proofs.Common.{◌≡◌, List, [], ◌∷◌, ◌++◌, map, Bool, true, false, cond, Option, Some, None, option_map, option_and_then, refl, sym, ap, ◌∙◌}
+use Rattle.std.proofs.Common.{◌≡◌, List, map, Bool, true, false, Option, Some, None, option_map, option_and_then, refl, sym, ap, ◌∙◌}
 use Rattle.std.specs.Prelude.{◌&&◌, filter, int_le, if◌then◌else◌}
-use Rattle.std.specs.Option.{option_or}
 use Rattle.std.specs.List.{last_or}
-use Rattle.std.proofs.lemmas.List.Elements.{filter-append}
 use Rattle.sqlite_keyed.proofs.ListLemmas.{filter-map}
 use Rattle.bor_records.specs.declared.row.Row.{Row}
-use Rattle.bor_records.proofs.Lists.{last_or-append}
 use Rattle.bor_records.specs.Admission.{is_closed, stated_status}
 use Rattle.bor_records.specs.Snapshot.{is_dated, latest, unless_closed as row_unless_closed}
 use Rattle.bor_records.specs.declared.links.node.Node.{Node}
@@ -19,25 +16,13 @@ use Rattle.bor_store_sql.specs.Rows.Placed.{bare}
 use Rattle.bor_store_sql.specs.Rows.Seen.{is_seen, row_placed}
 use Rattle.bor_store_sql.specs.Rows.Stored.{IsStored}
 use Rattle.bor_store_sql.specs.Selected.{in_series, placed_of}
-use Rattle.bor_store_sql.proofs.OnRows.BySeries.{last_map}
+use Rattle.bor_register.proofs.OnMemory.Lists.{last_map}
 use Rattle.bor_store_sql.proofs.OnRows.SeenPlaced.{filters_swap}
 use Rattle.bor_store_sql.proofs.Picking.{filter_both}
 use Rattle.bor_store_keys.specs.declared.view.View.{View}
 use Rattle.bor_store_keys.specs.Latest.{bare_row, is_row_seen, stored_unless_closed}
 use Rattle.bor_store_keys.specs.Viewed.{rows_seen}
 use Rattle.bor_store_keys.proofs.SeriesSeen.{series_seen, Stands, stands}
-
--- ---- the last of a list that passes a test, from its end
-
--- its last element passes
-pub last_passes : {X : Type 0} (p : X → Bool) (whole xs : List X) (x : X) → whole ≡ xs ++ x ∷ [] → p x ≡ true → Some x ≡ last_or None (filter p whole)
-last_passes p whole xs x is e =
-    sym (ap (λ l. last_or None (filter p l)) is ∙ ap (last_or None) (filter-append p xs (x ∷ [])) ∙ last_or-append None (filter p xs) (filter p (x ∷ [])) ∙ ap (λ b. option_or (last_or None (cond b (x ∷ []) [])) (last_or None (filter p xs))) e)
-
--- it doesn't
-pub last_before : {X : Type 0} (p : X → Bool) (whole xs : List X) (x : X) → whole ≡ xs ++ x ∷ [] → p x ≡ false → last_or None (filter p whole) ≡ last_or None (filter p xs)
-last_before p whole xs x is e =
-    ap (λ l. last_or None (filter p l)) is ∙ ap (last_or None) (filter-append p xs (x ∷ [])) ∙ last_or-append None (filter p xs) (filter p (x ∷ [])) ∙ ap (λ b. option_or (last_or None (cond b (x ∷ []) [])) (last_or None (filter p xs))) e
 
 -- ---- the latest one
 

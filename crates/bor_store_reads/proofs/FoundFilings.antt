@@ -5,7 +5,6 @@ use Rattle.std.proofs.lemmas.Simd.{map-map}
 use Rattle.std.proofs.lemmas.List.Elements.{All-filter}
 use Rattle.bor_terms.specs.Texts.{is_same, is_agent_name}
 use Rattle.bor_register.specs.declared.filing.AcceptedFiling.{AcceptedFiling}
-use Rattle.bor_register.specs.declared.member.Member.{Member}
 use Rattle.bor_register.specs.Register.{Register, filings_of, filing_keyed}
 use Rattle.bor_register.specs.Forms.{IsFormedFiling}
 use Rattle.bor_register.specs.Publication.{line_of, filing_shown}
@@ -13,12 +12,13 @@ use Rattle.bor_register.proofs.Forms.{formed-filings_of}
 use Rattle.bor_store_sql.specs.declared.rows.typed.FilingRow.{FilingRow}
 use Rattle.bor_store_sql.specs.Rows.Placed.{filing_row}
 use Rattle.bor_store_sql.specs.Rows.RowForms.{IsFormedFilingRow, IsFormedShown}
-use Rattle.bor_store_sql.specs.Rows.Stored.{AreNumbered, AllNumbered, IsStored}
+use Rattle.bor_store_sql.specs.Rows.Stored.{AreNumbered, IsStored}
 use Rattle.bor_store_sql.proofs.OnRows.ByKey.{count_is}
 use Rattle.bor_store_sql.proofs.OnRows.Formed.{filings_formed}
 use Rattle.bor_store_sql.specs.Selected.{keyed, last}
 use Rattle.bor_store_sql.specs.Rows.Seen.{line_shown}
 use Rattle.bor_store_reads.proofs.Lists.{all_mapped}
+pub use Rattle.bor_store_sql.proofs.StoredMembers.{numbered_of as own_numbered}
 
 -- the first filing under a key
 pub keyed_first : {Y : Type 0} (make : AcceptedFiling → Y) (key : List ℕ) (fs : List AcceptedFiling) → slice_get (map make (keyed key fs)) 0 ≡ option_map make (filing_keyed key fs)
@@ -50,10 +50,6 @@ pub counted : (agent : List ℕ) (fs : List AcceptedFiling) → AreNumbered 1 fs
 counted agent fs numbered = ap (λ o. unwrap_or o 0) (last_row agent fs) ∙ count_is fs numbered
 
 -- ---- forms
-
-pub own_numbered : (agent : List ℕ) (ms : List Member) → AllNumbered ms → AreNumbered 1 (filings_of agent ms)
-own_numbered agent [] h = tt
-own_numbered agent (m ∷ ms) h = elim (is_same m.name agent) as (λ b. AreNumbered 1 (if b then m.filings else filings_of agent ms)) [ true ↦ h.0 | false ↦ own_numbered agent ms h.1 ]
 
 shown_formed : (f : AcceptedFiling) → IsFormedFiling f → IsFormedShown (filing_shown f)
 shown_formed f h = record { number = h.number; due = h.due }

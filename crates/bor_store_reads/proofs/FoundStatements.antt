@@ -25,7 +25,7 @@ use Rattle.bor_store_sql.specs.declared.rows.typed.StatementRow.{StatementRow}
 use Rattle.bor_store_sql.specs.Rows.Placed.{bare, part_of, filing_row, placed_from, placed_by}
 use Rattle.bor_store_sql.specs.Rows.RowForms.{IsFormedPlaced}
 use Rattle.bor_store_sql.specs.Rows.Stored.{AreNumbered, IsStored}
-use Rattle.bor_store_sql.proofs.OnRows.BySeries.{last_map, any_map}
+use Rattle.bor_register.proofs.OnMemory.Lists.{last_map}
 use Rattle.bor_store_sql.proofs.OnRows.Numbers.{same_number, before_number}
 use Rattle.bor_store_sql.proofs.OnRows.Successors.{successor_is}
 use Rattle.bor_store_sql.proofs.OnRows.Formed.{placed_formed}
@@ -36,6 +36,10 @@ use Rattle.bor_store_reads.proofs.Found.{any_left}
 use Rattle.bor_store_reads.proofs.LastOnes.{of_last}
 
 -- ---- tests of statements
+
+any_map : {A B : Type 0} (p : B → Bool) (g : A → B) (xs : List A) → list_any p (map g xs) ≡ list_any (λ x. p (g x)) xs
+any_map p g [] = refl
+any_map p g (x ∷ xs) = rw (any_map p g xs) refl
 
 any_from : (t : Statement → Bool) (agent : List ℕ) (number place : ℕ) (ss : List Statement) → list_any (λ (p : Placed). t p.statement) (placed_from agent number place ss) ≡ list_any t ss
 any_from t agent number place [] = refl

@@ -60,12 +60,12 @@ counted s ids is (Ok x) same_ids same_is few_ids few = record { interests = subs
 -- ---- the row of an interest's days
 
 module _ (i : InterestRow) where
-  said_one : (starts ends : Option ℤ) → (is_some starts || is_some ends) ≡ true → if_said (period_of i) starts ends ≡ period_of i ∷ []
+  pub said_one : (starts ends : Option ℤ) → (is_some starts || is_some ends) ≡ true → if_said (period_of i) starts ends ≡ period_of i ∷ []
   said_one None None e = absurd (true≢false (sym e))
   said_one None (Some end) e = refl
   said_one (Some start) ends e = refl
 
-  said_none : (starts ends : Option ℤ) → (is_some starts || is_some ends) ≡ false → if_said (period_of i) starts ends ≡ []
+  pub said_none : (starts ends : Option ℤ) → (is_some starts || is_some ends) ≡ false → if_said (period_of i) starts ends ≡ []
   said_none None None e = refl
   said_none None (Some end) e = absurd (true≢false e)
   said_none (Some start) ends e = absurd (true≢false e)

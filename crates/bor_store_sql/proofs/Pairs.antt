@@ -1,6 +1,5 @@
 -- Two lists, element by element.
-use Rattle.std.proofs.Common.{◌≡◌, ℕ, zero, suc, ◌+◌, ◌<◌, ◌≤◌, List, [], ◌∷◌, take, length, get_or, refl, sym, ap₂, subst, ◌∙◌, arith}
-use Rattle.std.proofs.lemmas.List.{take_all}
+use Rattle.std.proofs.Common.{◌≡◌, ℕ, zero, suc, ◌+◌, ◌<◌, List, [], ◌∷◌, take, length, get_or, refl, sym, ap₂, subst, ◌∙◌, arith}
 use Rattle.bor_store_sql.specs.Fitting.{Pairwise}
 
 module _ {A B : Type 0} (P : ℕ → A → B → Type 0) where
@@ -33,12 +32,6 @@ module _ {A B : Type 0} (P : ℕ → A → B → Type 0) where
       let there : m ≡ (n + 1) + i = omega (arith, is) in
       let more : Pairwise P n (take (suc (i + 1)) (a ∷ xs)) (take (suc (i + 1)) (b ∷ ys)) = (h.0, one_more (n + 1) i m xs ys x y (omega (arith, lt)) (omega (arith, below)) e f there h.1 p) in
       subst (λ k. Pairwise P n (take k (a ∷ xs)) (take k (b ∷ ys))) next more
-
-  -- all pairs
-  pub all_pairs : (n i : ℕ) (xs : List A) (ys : List B) → length xs ≤ i → length ys ≡ length xs → Pairwise P n (take i xs) (take i ys) → Pairwise P n xs ys
-  all_pairs n i xs ys end same h =
-      let last : length ys ≤ i = omega arith in
-      subst (λ l. Pairwise P n l ys) (take_all i xs end) (subst (Pairwise P n (take i xs)) (take_all i ys last) h)
 
 -- a list that is made of another's elements, each with its number
 module _ {X Y : Type 0} (make : ℕ → X → Y) (from : ℕ → List X → List Y) (none : (n : ℕ) → from n [] ≡ []) (some : (n : ℕ) (x : X) (xs : List X) → from n (x ∷ xs) ≡ make n x ∷ from (n + 1) xs) where

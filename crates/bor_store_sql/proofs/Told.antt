@@ -1,5 +1,5 @@
 -- The answers of tables that are asked.
-use Rattle.std.proofs.Common.{◌≡◌, ◌↔◌, Bool, true, false, true≢false, List, Vec, Result, Ok, Err, IfOk, IsErr, IsTrue, refl, sym, subst, ◌∙◌}
+use Rattle.std.proofs.Common.{◌≡◌, ◌↔◌, Bool, true, false, true≢false, List, Vec, Result, Ok, Err, IfOk, IsErr, IsTrue, sym, subst, ◌∙◌}
 use Rattle.std.specs.declared.alloc.Global.{Global}
 use Rattle.sqlite.specs.Order.{Row}
 use Rattle.sqlite.specs.State.{State}
@@ -20,9 +20,6 @@ module _ (old new : State) (reads : ReadsOnly old new) where
   pub no_answer : {Holds : Register → Type 0} (result : Result Bool Error) → IsErr result → TellsWhether old new result Holds
   no_answer (Ok b) err = absurd (true≢false (sym err))
   no_answer (Err e) err = record { reads = reads; told = λ clean r shows. tt }
-
-  pub told_true : {Holds : Register → Type 0} → (IsClean new → (r : Register) → ShowsLists r old → Holds r) → TellsWhether old new (Ok true) Holds
-  told_true holds = record { reads = reads; told = λ clean r shows. (λ e. holds clean r shows, λ h. refl) }
 
   pub told_false : {Holds : Register → Type 0} → (IsClean new → (r : Register) → ShowsLists r old → Holds r → ⊥) → TellsWhether old new (Ok false) Holds
   told_false fails = record { reads = reads; told = λ clean r shows. (λ e. absurd (true≢false (sym e)), λ h. absurd (fails clean r shows h)) }

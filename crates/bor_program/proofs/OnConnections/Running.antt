@@ -1,7 +1,7 @@
 -- A server that lets clients in and goes on, and when it may end.
 use Rattle.bor_register.specs.declared.fault.StoreFault.{StoreFault}
 use Rattle.bor_records.specs.Promises.{Meaning}
-use Rattle.std.proofs.Common.{◌≡◌, ◌+◌, ◌≤◌, ◌<◌, ◌⊎◌, inl, inr, ℕ, List, [], ◌∷◌, ◌++◌, Bool, Option, true, append-nil, append_assoc, sym, refl, ap, subst, ◌∙◌, arith}
+use Rattle.std.proofs.Common.{◌≡◌, ◌+◌, ◌<◌, inl, ℕ, List, [], ◌∷◌, ◌++◌, Bool, Option, true, append-nil, append_assoc, sym, refl, ap, subst, ◌∙◌, arith}
 use Rattle.std.specs.Prelude.{◌||◌}
 use Rattle.std.specs.List.{All, list_any}
 use Rattle.std.proofs.lemmas.List.Folds.{list_any-append}
@@ -144,20 +144,6 @@ runs_on meaning does wire first now waited left awake filled new new_keep faults
     }
 
 -- ---- it ends
-
-pub ran : {K W S Left : Type 0} (meaning : Meaning K Register Left StoreFault) (does : W → Act → W → Type 0) (wire : Wire S) (first now : Standing K W S) (faults waits : ℕ) → IsRunning meaning does wire first now faults waits
-    → (0 < now.server.left → ((1000 ≤ faults) ⊎ (18446744073709551615 ≤ waits))) → Runs meaning does wire first now
-ran meaning does wire first now faults waits h ends = record {
-  held = h.held;
-  acts = h.acts;
-  done = h.done;
-  advances = h.advances;
-  patient = h.patient;
-  over = λ some. elim (ends some) [
-    | inl many ↦ inr (inl (omega (arith, many, h.failed)))
-    | inr long ↦ inr (inr (omega (arith, long, h.waited)))
-  ];
-}
 
 -- what was left to be told was told, and those that are there were given up, and those that have not come
 pub served_over : {K W S Left : Type 0} (meaning : Meaning K Register Left StoreFault) (does : W → Act → W → Type 0) (wire : Wire S) (first now : Standing K W S) (left : W) (connections : ℕ) (told last : Server S)

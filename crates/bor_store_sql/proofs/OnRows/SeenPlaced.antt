@@ -42,9 +42,6 @@ filters_swap p q (x ∷ xs) = go (p x) (q x) refl refl (filters_swap p q xs)
     go false false e h rest = rw (e, h) rest
 
 module _ (viewer : List ℕ) (day : ℤ) (agent : List ℕ) where
-  seen_by : List AcceptedFiling → Placed → Bool
-  seen_by fs p = is_seen viewer day agent fs p
-
   -- no later filing has the number
   none_later : (number n : ℕ) (fs : List AcceptedFiling) → number < n → AreNumbered n fs → list_any (λ f. f.number == number && is_visible viewer day agent f) fs ≡ false
   none_later number n [] low numbered = refl

@@ -2,7 +2,7 @@ use Rattle.std.proofs.Common.{sym, ◌∙◌}
 use Rattle.bor_register.specs.Register.{filings_of}
 use Rattle.bor_store_reads.proofs.Reading.{read_next, read_so}
 use Rattle.bor_store_keys.specs.Latest.{is_row_seen}
-use Rattle.bor_store_keys.proofs.OpenAt.{last_passes, last_before}
+use Rattle.bor_register.proofs.OnMemory.Lists.{last_before, last_passes}
 use Rattle.bor_store_keys.proofs.latest.last_told.Goals as goal
 
 pub returns-then-branch : goal.returns-then-branch
