@@ -46,10 +46,10 @@ def build(share, dear=1, lanes=LANES):
     countdown, told = Countdown(EXPECTED, WAITS, lanes, lanes, 0), Told()
     used, running, ended, now, lines = dict.fromkeys(CRATES, 0), {}, set(), 0, []
     while len(ended) < len(CRATES):
-        chain = countdown.longest_chain()
         ready = [it for it, below in WAITS.items() if it not in ended and it not in running and ended.issuperset(below)]
-        for name in sorted(ready, key=lambda it: it not in chain)[: lanes - len(running)]:
-            running[name] = lanes if name in chain else 1
+        pressing = [it for it in ready if countdown.is_pressing(it)]
+        for name in sorted(ready, key=lambda it: it not in pressing)[: lanes - len(running)]:
+            running[name] = lanes if name in pressing else 1
         part = sum(used.values()) / sum(takes.values())
         left = STEP * lanes * share(part)
         for name, jobs in sorted(running.items(), key=lambda it: -it[1]):

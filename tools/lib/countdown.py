@@ -14,6 +14,8 @@ PRIOR = 100
 HALVED, IDLE = 60, 0.5
 # How much longer it may take while nothing is known.
 DOUBT = 0.75
+# All wait for chains of at least this part of the longest one.
+LONG = 0.9
 
 
 def processors_for(jobs):
@@ -23,7 +25,7 @@ def processors_for(jobs):
 
 class Countdown:
     """The crates stand with their expected seconds, each after those that it waits for. So many lanes take crates;
-    one that all others wait for gets the most jobs."""
+    those that all others wait for get the most jobs."""
 
     def __init__(self, expected, waits, lanes, most, now):
         self.expected, self.waits, self.lanes, self.most, self.at = expected, waits, lanes, most, now
@@ -71,15 +73,10 @@ class Countdown:
                 found[below] = max(found[below], rests[below] + found[name])
         return found
 
-    def longest_chain(self):
-        """The crates of the chain that takes longest, of what is left."""
-        rests, names = self.rests(), set()
-        chains = self.chains(rests)
-        last = max(chains, key=chains.get, default=None)
-        while last:
-            names.add(last)
-            last = max((it for it in rests if last in self.waits[it]), key=chains.get, default=None)
-        return names
+    def is_pressing(self, name):
+        """Whether all wait for a crate that may begin: a chain of what is left begins with it that is about the longest."""
+        chains = self.chains(self.rests())
+        return chains[name] >= LONG * max(chains.values())
 
     def on_an_idle_machine(self, rests):
         """The seconds that so much takes there: the crates one after the other, those of the longest chain first."""
@@ -88,7 +85,8 @@ class Countdown:
             ready = [it for it in left if not any(below in left for below in self.waits[it])]
             ready, paces, free = sorted(ready, key=chains.get, reverse=True)[: self.lanes], {}, self.lanes
             for name in ready:
-                paces[name] = min(processors_for(self.most if name == ready[0] else 1), free)
+                jobs = self.most if chains[name] >= LONG * chains[ready[0]] else 1
+                paces[name] = min(processors_for(jobs), free)
                 free -= paces[name]
             paces = {name: pace for name, pace in paces.items() if pace}
             step = min(left[name] / pace for name, pace in paces.items())

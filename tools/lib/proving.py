@@ -88,14 +88,15 @@ class Progress:
     """How far the work is, told as it changes. The crates stand each after those that it waits for."""
 
     def __init__(self, rt, crates):
-        self.lanes, self.most = lanes_of(rt), most_jobs(rt)
+        self.lanes, self.more = lanes_of(rt), more_jobs(rt)
         took = times()
+        # the crates that are being proved, with how many jobs
+        self.running, self.turn = {}, threading.RLock()
         self.expected = {it.name: seconds(it, rt.rtlib, took) for it in crates}
         self.waits = {it.name: [below.name for below in it.below() if below in crates] for it in crates}
-        self.countdown = Countdown(self.expected, self.waits, self.lanes, self.most, time.monotonic())
-        # the crates that are being proved, with how many jobs
-        self.running, self.ended, self.failed, self.shown, self.told = {}, set(), set(), Told(), ""
-        self.turn, self.is_over = threading.RLock(), threading.Event()
+        self.countdown = Countdown(self.expected, self.waits, self.lanes, self.most(), time.monotonic())
+        self.ended, self.failed, self.shown, self.told = set(), set(), Told(), ""
+        self.is_over = threading.Event()
         threading.Thread(target=self.follow, daemon=True).start()
 
     def begin(self, name, jobs):
@@ -112,10 +113,18 @@ class Progress:
             self.failed |= set() if is_proved else {name}
             self.tell()
 
-    def longest_chain(self):
-        """The crates that all others wait for."""
+    def begin_in_turn(self, name, jobs):
+        """A crate is begun with so many jobs, or with all that it may get where the others wait for it. Gives whether
+        they do, and how many jobs these are."""
         with self.turn:
-            return self.countdown.longest_chain()
+            is_pressing = self.countdown.is_pressing(name)
+            jobs = max(jobs, self.most()) if is_pressing else jobs
+            self.begin(name, jobs)
+            return is_pressing, jobs
+
+    def most(self):
+        """How many jobs one more crate may get, by the memory that the others leave."""
+        return max(1, min(self.lanes, 1 + self.more - sum(jobs - 1 for jobs in self.running.values())))
 
     def tell(self):
         """Tells how far the work is, where that has changed: on a terminal in one line, else in a line each."""
@@ -150,10 +159,9 @@ def lanes_of(rt):
     return fixed or max(1, min(rt.processors(), rt.free() // MEMORY))
 
 
-def most_jobs(rt):
-    """How many jobs a crate may get that all others wait for, by the memory that the others leave."""
-    lanes = lanes_of(rt)
-    return max(1, min(lanes, 1 + int((rt.free() / MEMORY - lanes) / 0.6)))
+def more_jobs(rt):
+    """How many jobs more than one a lane the memory holds."""
+    return max(0, int((rt.free() / MEMORY - lanes_of(rt)) / 0.6))
 
 
 def give_way(call):
@@ -191,8 +199,8 @@ def build(rt, crate, jobs):
 
 
 def prove(rt, crate, progress, jobs):
-    """Proves a library and leaves it built; what was said where it couldn't be. Its out/build.log has that too."""
-    progress.begin(crate.name, jobs)
+    """Proves a library that was begun and leaves it built; what was said where it couldn't be. Its out/build.log has
+    that too."""
     os.makedirs(f"{crate.folder}/out", exist_ok=True)
     with open(f"{crate.folder}/out/build.log", "w+", encoding="utf-8") as crate.out:
         try:
@@ -207,7 +215,7 @@ def prove(rt, crate, progress, jobs):
 
 
 def prove_all(rt, crates, progress, failed):
-    """Has each library proved and left built once those of them below it are, the longest chain first.
+    """Has each library proved and left built once those of them below it are, the longest chains first.
 
     Where one isn't, `failed` gets it with what was said, and those above it are not tried. Gives whether each is.
     """
@@ -217,12 +225,11 @@ def prove_all(rt, crates, progress, failed):
         if not all(given[it, "proof"] for it in progress.waits[crate.name]):
             progress.end(crate.name, False)
             return False
-        # All wait for the longest chain of what is left: a crate of it gets every processor, where that leaves
+        # All wait for the longest chains of what is left: a crate of one gets every processor, where that leaves
         # memory for others. Any other crate gives way to it, and has the processors that no other one waits for.
-        if crate.name in progress.longest_chain():
-            said = prove(rt, crate, progress, max(jobs, progress.most))
-        else:
-            said = give_way(lambda: prove(rt, crate, progress, jobs))
+        is_pressing, jobs = progress.begin_in_turn(crate.name, jobs)
+        call = lambda: prove(rt, crate, progress, jobs)
+        said = call() if is_pressing else give_way(call)
         if said is not None:
             failed(crate, said)
         return said is None
