@@ -68,22 +68,22 @@ pub index_none_filed : (agent : List ℕ) (ms : List Member) (x : Index) → fil
 index_none_filed agent ms x none h =
     subst (λ (l : List Member). IsIndex l x) (sym (ap (λ (fs : List AcceptedFiling). with_filings agent fs ms) (sym none) ∙ with_filings_same agent ms)) h
 
-index_filed : (agent : List ℕ) (fs : List AcceptedFiling) (f : AcceptedFiling) (ms : List Member) (old new : Index) → is_enrolled agent ms ≡ true → IsIndex (with_filings agent fs ms) old → IsGrown agent (length fs) f.statements old new → IsIndex (with_filings agent (fs ++ f ∷ []) ms) new
+index_filed : (agent : List ℕ) (fs : List AcceptedFiling) (f : AcceptedFiling) (ms : List Member) (old new : Index) → is_enrolled agent ms ≡ true → IsIndex (with_filings agent fs ms) old → IsGrown agent (length fs) 0 f.statements old new → IsIndex (with_filings agent (fs ++ f ∷ []) ms) new
 index_filed agent fs f ms old new on h grown =
     let ns = with_filings agent fs ms in
     let own : filings_of agent ns ≡ fs = filings_written agent fs ms on in
     let it : IsIndex (with_filings agent (filings_of agent ns ++ f ∷ []) ns) new =
-    index_more ns agent f old new (enrolled_written agent fs ms ∙ on) h (subst (λ (n : ℕ). IsGrown agent n f.statements old new) (ap (λ (gs : List AcceptedFiling). length gs) (sym own)) grown) in
+    index_more ns agent f old new (enrolled_written agent fs ms ∙ on) h (subst (λ (n : ℕ). IsGrown agent n 0 f.statements old new) (ap (λ (gs : List AcceptedFiling). length gs) (sym own)) grown) in
     subst (λ (l : List Member). IsIndex l new) (ap (λ (gs : List AcceptedFiling). with_filings agent (gs ++ f ∷ []) ns) own ∙ written_twice agent fs (fs ++ f ∷ []) ms) it
 
 pub index_filed_more : (agent : List ℕ) (fs : List AcceptedFiling) (i : ℕ) (f : AcceptedFiling) (statements : List Statement) (ms : List Member) (old new : Index) → i < length fs → f ≡ get_or fs i f → statements ≡ f.statements → is_enrolled agent ms ≡ true
-    → IsIndex (with_filings agent (take i fs) ms) old → IsGrown agent i statements old new → IsIndex (with_filings agent (take (i + 1) fs) ms) new
+    → IsIndex (with_filings agent (take i fs) ms) old → IsGrown agent i 0 statements old new → IsIndex (with_filings agent (take (i + 1) fs) ms) new
 index_filed_more agent fs i f statements ms old new lt is same on h grown =
     let long : length (take i fs) ≡ i = long_take fs i (omega arith) in
     let more : take (i + 1) fs ≡ take i fs ++ f ∷ [] = take_more fs i f lt ∙ ap (λ (g : AcceptedFiling). take i fs ++ g ∷ []) (sym is) in
     subst (λ (gs : List AcceptedFiling). IsIndex (with_filings agent gs ms) new) (sym more)
     (index_filed agent (take i fs) f ms old new on h
-    (subst (λ (n : ℕ). IsGrown agent n f.statements old new) (sym long) (subst (λ (ss : List Statement). IsGrown agent i ss old new) same grown)))
+    (subst (λ (n : ℕ). IsGrown agent n 0 f.statements old new) (sym long) (subst (λ (ss : List Statement). IsGrown agent i 0 ss old new) same grown)))
   where
     long_take : (xs : List AcceptedFiling) (n : ℕ) → n ≤ length xs → length (take n xs) ≡ n
     long_take xs n within = length-take-le n xs within

@@ -118,7 +118,7 @@ noted_grown {K} keys ms agent f was now h g name s k live has =
       | inr new ↦ subst (λ (a : List ℕ). Contains (now k) (stated a s)) same (g.there s k new (subst (λ (a : List ℕ). Contains (keys a s) k) (sym same) has))
     ]
 
-pub index_more : (ms : List Member) (agent : List ℕ) (f : AcceptedFiling) (old new : Index) → is_enrolled agent ms ≡ true → IsIndex ms old → IsGrown agent (length (filings_of agent ms)) f.statements old new
+pub index_more : (ms : List Member) (agent : List ℕ) (f : AcceptedFiling) (old new : Index) → is_enrolled agent ms ≡ true → IsIndex ms old → IsGrown agent (length (filings_of agent ms)) 0 f.statements old new
     → IsIndex (with_filings agent (filings_of agent ms ++ f ∷ []) ms) new
 index_more ms agent f old new enrolled h g = record {
   series = λ n. places_grown (λ (m : Node). m.agent) (λ a m s. is_eq (node_cmp (stated a s) m)) record_apart ms agent f n (under node_cmp old.series n) (under node_cmp new.series n) enrolled (h.series n) (g.series n);

@@ -94,12 +94,13 @@ LeadsToAll agent fs x =
     (s : Statement)
     → ArePlacesOf fs (has_record (stated agent s)) (under node_cmp x.series (stated agent s))
 
--- The statements of an agent's filing, which has this index, are added to the maps.
-pub record IsGrown (agent : List ℕ) (filing : ℕ) (ss : List Statement)
+-- Statements of an agent's filing, which has this index, are added to the maps: those from a place
+-- on.
+pub record IsGrown (agent : List ℕ) (filing start : ℕ) (ss : List Statement)
     (old new : Index) : Type 0 where
   pub series : (n : Node) → under node_cmp new.series n ≡ under node_cmp old.series n
-      ++ places_from (λ s. is_eq (node_cmp (stated agent s) n)) filing 0 ss
+      ++ places_from (λ s. is_eq (node_cmp (stated agent s) n)) filing start ss
   pub named : (k : StatementKey) → under key_cmp new.named k ≡ under key_cmp old.named k
-      ++ places_from (λ s. is_eq (key_cmp (key_of agent s) k)) filing 0 ss
+      ++ places_from (λ s. is_eq (key_cmp (key_of agent s) k)) filing start ss
   pub naming : AreNoted subjects_of agent ss (under node_cmp old.naming) (under node_cmp new.naming)
   pub signed : AreNoted signs_of agent ss (under sign_cmp old.signed) (under sign_cmp new.signed)

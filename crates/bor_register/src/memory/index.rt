@@ -1,14 +1,12 @@
 //! Maps beside the filings of a register in memory, so that what is asked of a record takes no
 //! scan.
 
-ghost use Rattle.std.specs.Prelude.{◌≡◌, ◌++◌, [], OnOk, IfOk};
-ghost use Rattle.std.specs.Ordering.{is_eq};
+ghost use Rattle.std.specs.Prelude.{◌≡◌, ◌∷◌, [], OnOk, IfOk};
 ghost use Rattle.bor_records.specs.Links.Nodes.{node_cmp};
 ghost use Rattle.bor_records.specs.Links.Series.{stated};
 ghost use Rattle.bor_records.specs.Links.Signs.{sign_cmp};
 ghost use Rattle.bor_records.specs.Links.Values.{under};
-ghost use Rattle.bor_register.specs.Memory.Indexed.{AreNoted, IsGrown, IsIndex, key_cmp, key_of, signs_of, subjects_of};
-ghost use Rattle.bor_register.specs.Memory.Sited.{places_from};
+ghost use Rattle.bor_register.specs.Memory.Indexed.{IsGrown, IsIndex, key_cmp, signs_stated, subjects_of};
 
 use bods_read::{Details, Statement};
 use bor_records::links::values::{self, Values};
@@ -65,24 +63,43 @@ impl Index {
         filing: usize,
         statements: &[Statement],
     ) -> Result<Index, AllocError>
-        ensures { IfOk result (λ index. IsGrown agent.now filing statements.now self index) }
+        ensures { IfOk result (λ index. IsGrown agent.now filing 0 statements.now self index) }
     {
-        let Index {
-            mut series,
-            mut named,
-            mut naming,
-            mut signed,
-        } = self;
-        add_series(alloc, &mut series, agent, filing, statements)?;
-        add_named(alloc, &mut named, agent, filing, statements)?;
-        add_naming(alloc, &mut naming, agent, statements)?;
-        add_signed(alloc, &mut signed, agent, statements)?;
-        Ok(Index {
-            series,
-            named,
-            naming,
-            signed,
-        })
+        let mut index = self;
+        for (i, statement) in statements.iter().enumerate() {
+            let place = Place {
+                filing,
+                statement: i,
+            };
+            index.add(alloc, agent, place, statement)?;
+        }
+        Ok(index)
+    }
+
+    // Puts a statement's place under its record and its identifier, and the record under the
+    // subject that it names, if it is a relationship, and under its signs, if it is an entity.
+    fn add(
+        &mut self,
+        alloc: Global,
+        agent: &AgentName,
+        place: Place,
+        statement: &Statement,
+    ) -> Result<(), AllocError>
+        ensures { OnOk result
+            (IsGrown agent.now place.filing place.statement (statement.now ∷ []) self.old self.new) }
+    {
+        let node = record_of(alloc, agent, statement)?;
+        let subjects = subjects_of(alloc, agent, statement)?;
+        values::note(alloc, &mut self.naming, subjects, &node)?;
+        let signs = signs_of(alloc, &node, statement)?;
+        values::note(alloc, &mut self.signed, signs, &node)?;
+        let key = StatementKey {
+            id: statement.id.copy(alloc)?,
+            agent: agent.copy(alloc)?,
+        };
+        values::put(alloc, &mut self.named, key, place)?;
+        values::put(alloc, &mut self.series, node, place)?;
+        Ok(())
     }
 
     /// The places of a record's statements.
@@ -142,63 +159,6 @@ pub(crate) fn record_of(
     node_named(alloc, agent, &statement.declaration, &statement.rec)
 }
 
-// Puts the places of a filing's statements under their records.
-fn add_series(
-    alloc: Global,
-    series: &mut BTreeMap<Node, Values<Place>>,
-    agent: &AgentName,
-    filing: usize,
-    statements: &[Statement],
-) -> Result<(), AllocError>
-    ensures { OnOk result ((n : Node) → under node_cmp series.new n
-        ≡ under node_cmp series.old n
-        ++ places_from (λ s. is_eq (node_cmp (stated agent.now s) n)) filing 0 statements.now) }
-{
-    for (i, statement) in statements.iter().enumerate() {
-        let key = record_of(alloc, agent, statement)?;
-        values::put(
-            alloc,
-            series,
-            key,
-            Place {
-                filing,
-                statement: i,
-            },
-        )?;
-    }
-    Ok(())
-}
-
-// Puts the places of a filing's statements under the statements' identifiers.
-fn add_named(
-    alloc: Global,
-    named: &mut BTreeMap<StatementKey, Values<Place>>,
-    agent: &AgentName,
-    filing: usize,
-    statements: &[Statement],
-) -> Result<(), AllocError>
-    ensures { OnOk result ((k : StatementKey) → under key_cmp named.new k
-        ≡ under key_cmp named.old k
-        ++ places_from (λ s. is_eq (key_cmp (key_of agent.now s) k)) filing 0 statements.now) }
-{
-    for (i, statement) in statements.iter().enumerate() {
-        let key = StatementKey {
-            id: statement.id.copy(alloc)?,
-            agent: agent.copy(alloc)?,
-        };
-        values::put(
-            alloc,
-            named,
-            key,
-            Place {
-                filing,
-                statement: i,
-            },
-        )?;
-    }
-    Ok(())
-}
-
 // The record that a statement names as its subject.
 fn subjects_of(
     alloc: Global,
@@ -218,57 +178,14 @@ fn subjects_of(
     Ok(subjects)
 }
 
-// Puts each relationship under the subject that it names.
-fn add_naming(
-    alloc: Global,
-    naming: &mut BTreeMap<Node, Values<Node>>,
-    agent: &AgentName,
-    statements: &[Statement],
-) -> Result<(), AllocError>
-    ensures { OnOk result
-        (AreNoted subjects_of agent.now statements.now (under node_cmp naming.old)
-        (under node_cmp naming.new)) }
-{
-    for statement in statements {
-        let keys = subjects_of(alloc, agent, statement)?;
-        let node = record_of(alloc, agent, statement)?;
-        values::note(alloc, naming, keys, &node)?;
-    }
-    Ok(())
-}
-
-// The signs of the entity that a statement makes.
-fn signs_of(
-    alloc: Global,
-    agent: &AgentName,
-    statement: &Statement,
-) -> Result<Vec<Sign>, AllocError>
-    ensures { IfOk result (λ signs. signs.items ≡ signs_of agent.now statement.now) }
+// The signs of the entity that a statement of this record makes.
+fn signs_of(alloc: Global, node: &Node, statement: &Statement) -> Result<Vec<Sign>, AllocError>
+    ensures { IfOk result (λ signs. signs.items ≡ signs_stated node.now statement.now.details) }
 {
     let mut signs = Vec::new(alloc);
     if let Details::Entity { identifiers, .. } = &statement.details {
-        let node = record_of(alloc, agent, statement)?;
-        signs.push(Sign::of_node(alloc, &node)?)?;
+        signs.push(Sign::of_node(alloc, node)?)?;
         push_signs(alloc, &mut signs, identifiers.as_slice())?;
     }
     Ok(signs)
-}
-
-// Puts each entity under its signs.
-fn add_signed(
-    alloc: Global,
-    signed: &mut BTreeMap<Sign, Values<Node>>,
-    agent: &AgentName,
-    statements: &[Statement],
-) -> Result<(), AllocError>
-    ensures { OnOk result
-        (AreNoted signs_of agent.now statements.now (under sign_cmp signed.old)
-        (under sign_cmp signed.new)) }
-{
-    for statement in statements {
-        let keys = signs_of(alloc, agent, statement)?;
-        let node = record_of(alloc, agent, statement)?;
-        values::note(alloc, signed, keys, &node)?;
-    }
-    Ok(())
 }

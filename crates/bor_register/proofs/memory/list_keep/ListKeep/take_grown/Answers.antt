@@ -23,6 +23,6 @@ returns-clause-grown c =
     let old : Index = c.in_ok-index.index in
     told_then c.with_filing.result _ (Grows agent statements before)
     (λ index g f same enrolled. index_more before agent f old index enrolled c.in_ok-index.ensures.maps
-    (subst (λ (ss : List Statement). IsGrown agent (length (filings_of agent before)) ss old index) (sym same)
-    (subst (λ (fs : List AcceptedFiling). IsGrown agent (length fs) statements old index) own g)))
+    (subst (λ (ss : List Statement). IsGrown agent (length (filings_of agent before)) 0 ss old index) (sym same)
+    (subst (λ (fs : List AcceptedFiling). IsGrown agent (length fs) 0 statements old index) own g)))
     c.with_filing.ensures
