@@ -78,16 +78,16 @@ impl Trail {
     fn give(
         &mut self,
         alloc: Global,
-        nodes: &[Node],
+        nodes: Vec<Node>,
         mark: Mark,
         crossing: &Crossing,
         info: &NodeInfo,
     ) -> Result<(), AllocError>
         ensures longer { OnOk result (length self.old.marks ≤ length self.new.marks) }
-        ensures gives { OnOk result (GivesMarks (IsOneOf nodes.now mark)
+        ensures gives { OnOk result (GivesMarks (IsOneOf nodes.items mark)
             (Some (step_by crossing.now info.now)) self.old self.new) }
     {
-        self.marks.add_all(alloc, nodes, mark)?;
+        self.marks.add_all(nodes, mark)?;
         fill(alloc, &mut self.steps, self.marks.len(), crossing, info)?;
         Ok(())
     }
@@ -145,7 +145,7 @@ impl Trail {
             Err(fault) => return Err(WalkFault::Source(fault)),
         };
         let info = NodeInfo::Entity { legal: true };
-        self.give(alloc, &nodes, Mark::Middle, crossing, &info)?;
+        self.give(alloc, nodes, Mark::Middle, crossing, &info)?;
         Ok(())
     }
 
@@ -245,7 +245,7 @@ fn begin<S: LinkSource>(
         Err(fault) => return Err(WalkFault::Source(fault)),
     };
     let mut marks = Marks::new(alloc);
-    marks.add_all(alloc, &nodes, Mark::Target)?;
+    marks.add_all(nodes, Mark::Target)?;
     let steps = without_steps(alloc, marks.len())?;
     Ok(Trail { marks, steps })
 }

@@ -1,9 +1,8 @@
-use Rattle.std.proofs.Common.{◌≡◌, true, false, Contains, List, Some, sym, ◌∙◌, refl, subst, inl, inr}
+use Rattle.std.proofs.Common.{◌≡◌, true, false, Contains, Some, sym, ◌∙◌, refl, subst, inl, inr}
 use Rattle.bor_records.specs.declared.links.node.Node.{Node}
 use Rattle.bor_records.specs.declared.links.node.NodeInfo.TheVariants as infos
 use Rattle.bor_chains.specs.declared.marks.Mark.TheVariants.{Middle}
-use Rattle.bor_chains.specs.Marks.{IsOneOf}
-use Rattle.bor_chains.specs.Trail.{step_by, GivesMarks}
+use Rattle.bor_chains.specs.Trail.{step_by}
 use Rattle.bor_chains.proofs.Marking.{gives_class}
 use Rattle.bor_chains.proofs.trail.Trail.mark_class.Goals as goal
 
@@ -16,6 +15,5 @@ returns-clause-walked g c = λ m e k. inr (
   (λ h.
       let t : c.has.result ≡ true = c.has.ensures.1 (subst (λ (n : Node). Contains c.args.self.now.marks (record { node = n; mark = Middle })) (sym c.in_ok-copy.ensures) h) in
       let no : true ≡ false = sym t ∙ c.if-has.false in absurd cc),
-  gives_class (g.S.LinkSource.shown m) c.args.crossing.now.link.party Middle c.in-Ok.nodes.items (Some (step_by c.args.crossing.now (infos.Entity true))) c.args.self.now c.give.new.self (c.in-Ok.ensures.reads.answer m e k)
-      (subst (λ (ns : List Node). GivesMarks (IsOneOf ns Middle) (Some (step_by c.args.crossing.now (infos.Entity true))) c.args.self.now c.give.new.self) c.deref.ensures.value c.in_ok-give.ensures.gives),
+  gives_class (g.S.LinkSource.shown m) c.args.crossing.now.link.party Middle c.in-Ok.nodes.items (Some (step_by c.args.crossing.now (infos.Entity true))) c.args.self.now c.give.new.self (c.in-Ok.ensures.reads.answer m e k) c.in_ok-give.ensures.gives,
 )
