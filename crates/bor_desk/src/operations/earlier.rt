@@ -13,16 +13,17 @@ use bor_terms::{Day, Ident};
 use std::alloc::{AllocError, Global};
 use std::collections::{BTreeMap, BTreeSet};
 
-// A record of a declaration. The record is compared first: most statements are of few declarations.
+/// A record of a declaration. The record is compared first: most statements are of few
+/// declarations.
 #[derive(Drop, PartialEq, Eq, PartialOrd, Ord)]
-struct RecordKey {
+pub(crate) struct RecordKey {
     rec: Ident,
     declaration: Ident,
 }
 
 impl RecordKey {
-    // The record that the statement is of.
-    fn of(alloc: Global, statement: &Statement) -> Result<RecordKey, AllocError>
+    /// The record that the statement is of.
+    pub(crate) fn of(alloc: Global, statement: &Statement) -> Result<RecordKey, AllocError>
         ensures { IfOk result (λ key. key ≡ record_of statement.now) }
     {
         Ok(RecordKey {
@@ -58,31 +59,27 @@ impl Earlier {
         self.ids.contains(id)
     }
 
-    /// The last statement of the statement's record, as far as the rules ask, where there is one.
-    pub(crate) fn last(
-        &self,
-        alloc: Global,
-        statement: &Statement,
-    ) -> Result<Option<Last>, AllocError>
-        ensures { IfOk result (λ last. (live : List Live) → AreFound live self.now →
-            last ≡ last_of statement.now.declaration statement.now.rec live) }
+    /// The record's last statement, as far as the rules ask, where there is one.
+    pub(crate) fn last(&self, key: &RecordKey) -> Option<Last>
+        ensures { (live : List Live) → AreFound live self.now →
+            result ≡ last_of key.now.declaration key.now.rec live }
     {
-        let key = RecordKey::of(alloc, statement)?;
-        Ok(self.lasts.get(&key).copied())
+        self.lasts.get(key).copied()
     }
 
-    /// One settled statement more.
+    /// One settled statement more, of this record.
     pub(crate) fn add(
         &mut self,
         alloc: Global,
+        key: RecordKey,
         statement: &Statement,
         due: Day,
     ) -> Result<(), AllocError>
+        requires { key ≡ record_of statement.now }
         ensures { OnOk result ((live : List Live) → AreFound live self.old →
             AreFound (live ++ as_live due statement.now ∷ []) self.new) }
     {
         let id = statement.id.copy(alloc)?;
-        let key = RecordKey::of(alloc, statement)?;
         self.ids.insert(id)?;
         self.lasts.insert(key, known(statement, due))?;
         Ok(())

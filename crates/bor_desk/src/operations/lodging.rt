@@ -13,13 +13,13 @@ ghost use Rattle.bor_register.specs.Publication.{state_of_live, line_of};
 ghost use Rattle.bor_records.specs.Promises.{Changes, Kept, Leaves, Promised, Sure, Reads};
 ghost use Rattle.bor_desk.specs.declared.operations.fault.LodgeFault.TheVariants as lodge_faults;
 ghost use Rattle.bor_register.specs.Limits.{filings_limit};
-ghost use Rattle.bor_desk.specs.Operations.Earlier.{AreFound};
+ghost use Rattle.bor_desk.specs.Operations.Earlier.{AreFound, record_of};
 ghost use Rattle.bor_desk.specs.Operations.Lodging.{as_read, told_settled, told_verdict, settled_reading, repeated, addition, lodge_step};
 ghost use Rattle.bor_desk.specs.Operations.Outcomes.{Accounts, store_fault, of_lodging, IsOutcome, IsDone, IsMadeAlone};
 ghost use Rattle.bor_desk.specs.Operations.Legality.{IsLegal};
 ghost use Rattle.bor_desk.specs.Operations.Sight.{sight_of};
 
-use crate::operations::earlier::Earlier;
+use crate::operations::earlier::{Earlier, RecordKey};
 use crate::operations::fault::LodgeFault;
 use bods_read::{ReadFault, Statement, Status, read_file};
 use bor_records::{Last, admit};
@@ -95,14 +95,15 @@ fn last<K: Keep>(
 // The status that a statement is settled as after those before it, or why it is refused.
 #[tactic(auto, using(crate::proofs::OnOperations::Lodgings::verdict_rules, crate::proofs::OnOperations::Lodgings::moved))]
 fn settled_status<K: Keep>(
-    alloc: Global,
     keep: &mut K,
     agent: &AgentName,
     due: Day,
     earlier: &Earlier,
+    key: &RecordKey,
     statement: &Statement,
     place: u32,
 ) -> Result<Status, LodgeFault>
+    requires { key.now ≡ record_of statement.now }
     ensures kept { Kept K.meaning keep.old keep.new }
     ensures accounted { Accounts K.meaning keep.old keep.new (store_fault of_lodging result) }
     ensures answer { Promised K.meaning keep.old keep.new (λ r.
@@ -113,8 +114,11 @@ fn settled_status<K: Keep>(
     if is_taken(keep, agent, earlier, &statement.id)? {
         return Err(LodgeFault::StatementTwice(place));
     }
-    let in_file = earlier.last(alloc, statement)?;
-    match admit(last(keep, agent, statement, in_file)?, statement, due) {
+    match admit(
+        last(keep, agent, statement, earlier.last(key))?,
+        statement,
+        due,
+    ) {
         Ok(status) => Ok(status),
         Err(fault) => Err(LodgeFault::Record { place, fault }),
     }
@@ -138,9 +142,10 @@ fn settle<K: Keep>(
     let mut earlier = Earlier::new(alloc);
     for i in 0..statements.len() {
         let place = i as u32 + 1;
-        let status = settled_status(alloc, keep, agent, due, &earlier, &statements[i], place)?;
+        let key = RecordKey::of(alloc, &statements[i])?;
+        let status = settled_status(keep, agent, due, &earlier, &key, &statements[i], place)?;
         statements[i].status = Some(status);
-        earlier.add(alloc, &statements[i], due)?;
+        earlier.add(alloc, key, &statements[i], due)?;
     }
     Ok(())
 }

@@ -12,5 +12,5 @@ returns c = λ live found.
     let one = as_live c.args.due c.args.statement.now in
     record {
       ids = ids_more live one c.in_ok-id.id (λ id. contains (slice_cmp nat_cmp) c.args.self.now.ids id) (λ id. contains (slice_cmp nat_cmp) c.insert.new.self id) c.in_ok-id.ensures found.ids c.in_ok-insert.ensures.updates.0;
-      lasts = lasts_more live one c.in_ok-key.key c.known.result (λ key. get record_cmp c.args.self.now.lasts key) (λ key. get record_cmp c.insert-2.new.self key) c.in_ok-key.ensures c.known.ensures found.lasts c.in_ok-insert-2.ensures.updates.0;
+      lasts = lasts_more live one c.args.key c.known.result (λ key. get record_cmp c.args.self.now.lasts key) (λ key. get record_cmp c.insert-2.new.self key) c.requires c.known.ensures found.lasts c.in_ok-insert-2.ensures.updates.0;
     }
