@@ -3,7 +3,7 @@ pub mod Sited
 pub mod Searched
 pub mod Withdrawn
 pub mod Rows
-pub mod Maps
+pub mod Grown
 pub mod Indexed
 pub mod Built
 pub mod Sighted

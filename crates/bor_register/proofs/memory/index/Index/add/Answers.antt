@@ -8,7 +8,7 @@ use Rattle.bor_records.proofs.OnLinks.Exact.{exact_node, exact_sign}
 use Rattle.bor_register.specs.declared.memory.index.StatementKey.{StatementKey}
 use Rattle.bor_register.specs.Memory.Indexed.{key_cmp, key_of, signs_of, signs_stated, subjects_of}
 use Rattle.bor_register.proofs.OnMemory.Indexed.{exact_key}
-use Rattle.bor_register.proofs.OnMemory.Maps.{noted_one, place_put}
+use Rattle.bor_register.proofs.OnMemory.Grown.{noted_one, place_put}
 use Rattle.bor_register.proofs.memory.index.Index.add.Goals as goal
 
 pub returns : goal.returns

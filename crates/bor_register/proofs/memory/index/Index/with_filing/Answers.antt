@@ -2,7 +2,7 @@ use Rattle.std.proofs.Common.{◌≡◌, ◌+◌, ◌++◌, ◌∷◌, [], List,
 use Rattle.std.proofs.lemmas.List.{take_all, take_more, length-take-le}
 use Rattle.bods_read.specs.declared.statement.Statement.{Statement}
 use Rattle.bor_register.specs.Memory.Indexed.{IsGrown}
-use Rattle.bor_register.proofs.OnMemory.Maps.{grown_none, grown_then}
+use Rattle.bor_register.proofs.OnMemory.Grown.{grown_none, grown_then}
 use Rattle.bor_register.proofs.memory.index.Index.with_filing.Goals as goal
 
 pub loop-i-init : goal.loop-i-init
