@@ -1,37 +1,25 @@
--- The text of a day is the spelling of its year, month and day.
-use Rattle.std.proofs.Common.{◌≡◌, ℕ, zero, suc, ◌+◌, ◌-◌, ◌/◌, ◌<◌, ◌≤◌, Bool, true, false, cond, List, ◌∷◌, pos, ◌+ℤ◌, refl, ap, ◌∙◌, arith}
+-- The text of a day is the spelling of its year, month and day, and names it.
+use Rattle.std.proofs.Common.{◌≡◌, ℕ, suc, ◌+◌, ◌-◌, ◌*◌, ◌/◌, ◌%◌, ◌<◌, ◌≤◌, Bool, true, false, Some, length, pos, ◌+ℤ◌, sym, ap, ◌∙◌, arith, inl, inr}
 use Rattle.std.specs.Prelude.{nat_le, count_by, unsigned_abs}
 use Rattle.std.specs.List.{range_with_len}
 use Rattle.std.proofs.lemmas.Int.{ints}
 use Rattle.std.proofs.lemmas.Bool.Decides.{nat_tests}
-use Rattle.std.proofs.lemmas.List.Sums.{sum_by-cons}
+use Rattle.std.proofs.lemmas.Bool.{cases_lt, lt-ltb, le-ltb, le-leb, lt-leb}
+use Rattle.std.proofs.lemmas.List.Sums.{length-filter}
+use Rattle.std.proofs.lemmas.List.FromFn.{length-range_with_len}
 use Rattle.jiff_core.specs.Calendar.{days_from_civil, days_in_month, days_in_year, days_of_months, day_count, IsCivilDate}
 use Rattle.jiff_core.proofs.MarchLemmas.{day_count-early}
 use Rattle.jiff_core.proofs.CalendarLemmas.{day_count-epoch, day_count-day_of_year, day_count-next_year, day_of_year_before, day_of_year_bound, days_of_months_mono}
-use Rattle.bor_terms.specs.Day.{civil_text, year_start, year_at, month_at, text_in_month, text_in_year, text_at, day_text}
-
--- ---- counting
-
-le_true : (a b : ℕ) → a ≤ b → nat_le a b ≡ true
-le_true a b h = grind (arith, nat_tests)
-
-le_false : (a b : ℕ) → b < a → nat_le a b ≡ false
-le_false a b h = grind (arith, nat_tests)
-
-one_more : (p : ℕ → Bool) (b : Bool) (x : ℕ) (xs : List ℕ) (k : ℕ) → p x ≡ b → count_by p xs ≡ k → count_by p (x ∷ xs) ≡ cond b 1 0 + k
-one_more p b x xs k here rest = sum_by-cons (λ y. cond (p y) 1 0) x xs ∙ ap (λ t. cond t 1 0 + count_by p xs) here ∙ ap (λ n. cond b 1 0 + n) rest
+use Rattle.bor_terms.proofs.AnyPoint.{below_bound}
+use Rattle.bor_terms.specs.Day.{digit, ◌>>=◌, day_of, has_marks, digits_day, pair_at, number_of, civil_text, year_start, year_at, month_at, text_in_month, text_in_year, text_at, day_text}
 
 -- where the first k of n numbers pass and none after them, k pass
 count_first : (p : ℕ → Bool) (a n k : ℕ) → k ≤ n → ((j : ℕ) → a ≤ j → j < a + k → p j ≡ true) → ((j : ℕ) → a + k ≤ j → p j ≡ false) → count_by p (range_with_len a n) ≡ k
-count_first p a zero zero le within past = refl
-count_first p a zero (suc k) le within past = absurd (omega arith)
-count_first p a (suc n) zero le within past =
-    one_more p false a (range_with_len (a + 1) n) 0 (past a (omega arith))
-    (count_first p (a + 1) n zero (omega arith) (λ j low high. absurd (omega arith)) (λ j low. past j (omega arith)))
-count_first p a (suc n) (suc k) le within past =
-    one_more p true a (range_with_len (a + 1) n) k (within a (omega arith) (omega arith))
-    (count_first p (a + 1) n k (omega arith) (λ j low high. within j (omega arith) (omega arith)) (λ j low. past j (omega arith)))
-    ∙ omega arith
+count_first p a n k le within past =
+    sym (length-filter p (range_with_len a n))
+    ∙ ap length (below_bound p a n (a + k) (omega arith)
+    (λ j from. elim (cases_lt j (a + k)) [ inl below ↦ within j from below ∙ sym (lt-ltb j (a + k) below) | inr over ↦ past j over ∙ sym (le-ltb j (a + k) over) ]))
+    ∙ length-range_with_len a (a + k - a) ∙ omega arith
 
 -- ---- years
 
@@ -58,8 +46,8 @@ year_at-is y days le lt most =
     let high : y ≤ all / 366 + 28 = omega arith in
     let k = y - all / 366 in
     let counted = count_first (λ j. nat_le (year_start (all / 366 + j)) all) 1 28 k (omega arith)
-    (λ j from to. le_true _ _ (let m = year_start-mono (all / 366 + j) y (omega arith) in omega arith))
-    (λ j from. le_false _ _ (let m = year_start-mono (y + 1) (all / 366 + j) (omega arith) in omega (arith, year_start-next y))) in
+    (λ j from to. le-leb _ _ (let m = year_start-mono (all / 366 + j) y (omega arith) in omega arith))
+    (λ j from. lt-leb _ _ (let m = year_start-mono (y + 1) (all / 366 + j) (omega arith) in omega (arith, year_start-next y))) in
     rw counted (omega arith)
 
 -- ---- months
@@ -69,8 +57,8 @@ unfolding month_at
 month_at-is y m d first last low high =
     let all = days_of_months (pos y) (m - 1) + (d - 1) in
     let counted = count_first (λ j. nat_le (days_of_months (pos y) j) all) 1 11 (m - 1) (omega arith)
-    (λ j from to. le_true _ _ (let at = days_of_months_mono (pos y) j (m - 1) (omega arith) in omega arith))
-    (λ j from. le_false _ _ (let at = day_of_year_before (pos y) m d j first high (omega arith) in omega arith)) in
+    (λ j from to. le-leb _ _ (let at = days_of_months_mono (pos y) j (m - 1) (omega arith) in omega arith))
+    (λ j from. lt-leb _ _ (let at = day_of_year_before (pos y) m d j first high (omega arith) in omega arith)) in
     rw counted (omega arith)
 
 -- ---- days
@@ -100,3 +88,20 @@ day_text-civil y m d le civil =
     ∙ ap (λ k. text_in_year k (year_start y + rest - year_start k)) (year_at-is y rest le lt most)
     ∙ ap (λ n. text_in_year y n) back
     ∙ text_in_year-is y m d civil.1.0 civil.1.1 civil.2.0 civil.2.1
+
+-- ---- the text of a day is read again
+
+digit_back : (n : ℕ) → n < 10 → digit (48 + n) ≡ Some n
+digit_back n lt = grind (arith, nat_tests)
+
+pub pair_back : (n : ℕ) → n < 100 → (digit (48 + n / 10) >>= λ t. digit (48 + n % 10) >>= λ o. Some (10 * t + o)) ≡ Some n
+pair_back n lt = grind (arith, digit_back (n / 10), digit_back (n % 10))
+
+-- the text of a date names its day
+pub civil_text-named : (y m d : ℕ) → y < 10000 → m < 100 → d < 100 → day_of (civil_text y m d) ≡ number_of y m d
+unfolding day_of has_marks digits_day pair_at
+civil_text-named y m d ly lm ld =
+    let century : y / 100 < 100 = omega arith in
+    let rest : y % 100 < 100 = omega arith in
+    let e : 100 * (y / 100) + y % 100 ≡ y = omega arith in
+    rw (pair_back (y / 100) century, pair_back (y % 100) rest, pair_back m lm, pair_back d ld) (ap (λ n. number_of n m d) e)

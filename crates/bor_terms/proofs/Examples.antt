@@ -1,13 +1,13 @@
 -- The definitions, tried: each equation here computes from the definitions alone.
-use Rattle.std.proofs.Common.{◌≡◌, ℕ, true, false, List, [], ◌∷◌, ◌++◌, Some, None, pos, neg_ℤ, refl, map, replicate}
+use Rattle.std.proofs.Common.{◌≡◌, ℕ, true, false, List, [], ◌∷◌, ◌++◌, Option, Some, None, pos, neg_ℤ, refl, map, replicate}
 use Rattle.std.specs.Prelude.{codes, nat_lt, is_some, ⊤}
 use Rattle.std.specs.List.{list_all, list_any, filter, range_with_len}
 use Rattle.std.specs.Str.{is_utf8, chars}
 use lib.Utf8.{encode}
 use Rattle.jiff_core.specs.Calendar.{days_from_civil, day_count, days_of_years, days_of_months}
-use Rattle.bor_terms.specs.Points.{at_least, above, at_most, below, points, has_points}
+use Rattle.bor_terms.specs.Points.{Bound, at_least, above, at_most, below, points, has_points}
 use Rattle.bor_terms.specs.Shown.{shown}
-use Rattle.bor_terms.specs.Span.{range}
+use Rattle.bor_terms.specs.Span.{Range, range}
 use Rattle.bor_terms.specs.Day.{day_of, has_marks, digits_day, pair_at, number_of, day_text, year_at, month_at}
 use Rattle.bor_terms.specs.Period.{end_of, is_month, month_end, month_start, start_of, year_end, year_of, year_start}
 use Rattle.bor_terms.specs.Texts.{is_agent_name, is_lodge_key, is_ident, is_token, is_below}
@@ -46,55 +46,33 @@ holding = refl
 
 -- ---- the ends that are shown of a share; true is open
 
--- {"minimum":50,"exclusiveMinimum":50}
-equal_lows : shown (points (at_least 50 ∷ above 50 ∷ [])) ≡ Some (range 50 true 100 false)
-unfolding shown points
-equal_lows = refl
+abbrev AreShown : List (List Bound × Option Range) → Type 0
+AreShown cases = map (λ c. shown (points c.0)) cases ≡ map (λ c. c.1) cases
 
--- {"minimum":60,"exclusiveMinimum":50}
-greatest_low : shown (points (at_least 60 ∷ above 50 ∷ [])) ≡ Some (range 60 false 100 false)
+shown_ends : AreShown (
+    -- {"minimum":50,"exclusiveMinimum":50}
+    (at_least 50 ∷ above 50 ∷ [], Some (range 50 true 100 false))
+    -- {"minimum":60,"exclusiveMinimum":50}
+    ∷ (at_least 60 ∷ above 50 ∷ [], Some (range 60 false 100 false))
+    -- {"exclusiveMinimum":0,"exclusiveMaximum":100}
+    ∷ (above 0 ∷ below 100 ∷ [], Some (range 0 true 100 true))
+    -- {"minimum":40,"exclusiveMinimum":50,"maximum":51,"exclusiveMaximum":true}
+    ∷ (at_least 40 ∷ above 50 ∷ below 51 ∷ [], Some (range 50 true 51 true))
+    -- {"maximum":20,"exclusiveMaximum":20}
+    ∷ (at_most 20 ∷ below 20 ∷ [], Some (range 0 false 20 true))
+    -- {"exclusiveMinimum":true} and {}
+    ∷ ([], Some (range 0 false 100 false))
+    -- {"exact":10}
+    ∷ (at_least 10 ∷ at_most 10 ∷ [], Some (range 10 false 10 false))
+    -- {"exclusiveMaximum":0}
+    ∷ (below 0 ∷ [], None)
+    -- {"exclusiveMinimum":100}
+    ∷ (above 100 ∷ [], None)
+    -- {"minimum":50,"exclusiveMinimum":true,"maximum":50}
+    ∷ (above 50 ∷ at_most 50 ∷ [], None)
+    ∷ [])
 unfolding shown points
-greatest_low = refl
-
--- {"exclusiveMinimum":0,"exclusiveMaximum":100}
-open_all : shown (points (above 0 ∷ below 100 ∷ [])) ≡ Some (range 0 true 100 true)
-unfolding shown points
-open_all = refl
-
--- {"minimum":40,"exclusiveMinimum":50,"maximum":51,"exclusiveMaximum":true}
-both_open : shown (points (at_least 40 ∷ above 50 ∷ below 51 ∷ [])) ≡ Some (range 50 true 51 true)
-unfolding shown points
-both_open = refl
-
--- {"maximum":20,"exclusiveMaximum":20}
-equal_highs : shown (points (at_most 20 ∷ below 20 ∷ [])) ≡ Some (range 0 false 20 true)
-unfolding shown points
-equal_highs = refl
-
--- {"exclusiveMinimum":true} and {}
-unbounded : shown (points []) ≡ Some (range 0 false 100 false)
-unfolding shown points
-unbounded = refl
-
--- {"exact":10}
-one_point : shown (points (at_least 10 ∷ at_most 10 ∷ [])) ≡ Some (range 10 false 10 false)
-unfolding shown points
-one_point = refl
-
--- {"exclusiveMaximum":0}
-below_all : shown (points (below 0 ∷ [])) ≡ None
-unfolding shown points
-below_all = refl
-
--- {"exclusiveMinimum":100}
-above_all : shown (points (above 100 ∷ [])) ≡ None
-unfolding shown points
-above_all = refl
-
--- {"minimum":50,"exclusiveMinimum":true,"maximum":50}
-open_and_equal : shown (points (above 50 ∷ at_most 50 ∷ [])) ≡ None
-unfolding shown points
-open_and_equal = refl
+shown_ends = refl
 
 -- ---- days
 

@@ -1,191 +1,126 @@
 -- Where the fronts of two texts differ, or else their backs, the texts are ordered as these are; and
 -- short texts are the same where both are.
-use Rattle.std.proofs.Common.{◌%◌, ◌≡◌, ◌≢◌, ℕ, zero, suc, ◌+◌, ◌*◌, ◌^◌, ◌<◌, ◌≤◌, List, [], ◌∷◌, refl, ◌∙◌, sym, ap, lit<, arith, Ordering}
-use Rattle.std.specs.Prelude.{true, drop}
+use Rattle.std.proofs.Common.{◌%◌, ◌≡◌, ◌≢◌, ℕ, zero, suc, ◌+◌, ◌*◌, ◌^◌, ◌<◌, ◌≤◌, min, List, [], ◌∷◌, length, refl, ◌∙◌, sym, ap, arith, inl, inr, Ordering}
+use Rattle.std.specs.Prelude.{true, slice_index}
 use Rattle.std.specs.Cmp.{nat_cmp_is}
-use Rattle.std.proofs.lemmas.Bool.{ltb-true}
+use Rattle.std.proofs.lemmas.Bool.{ltb-true, cases_order}
+use Rattle.std.proofs.lemmas.Bool.Decides.{nat_tests}
 use Rattle.std.proofs.lemmas.Map.Text.{is_eq-slice_cmp}
-use Rattle.std.specs.Ordering.{nat_cmp, is_eq, ordering_then, ordering_reverse}
+use Rattle.std.proofs.lemmas.Nat.{same_from_place}
+use Rattle.std.specs.Ordering.{nat_cmp, is_eq, ordering_then}
 use Rattle.std.specs.declared.cmp.Ordering.TheVariants.{Less, Equal, Greater}
 use Rattle.std.specs.Cmp.Lexicographic.{slice_cmp}
-use Rattle.std.proofs.Math.Nat.{one-le-pow}
-use Rattle.std.proofs.lemmas.Cmp.{ranked, nat_list_cmp_total}
+use Rattle.std.proofs.lemmas.Cmp.{nat_list_cmp_total}
 use Rattle.bor_terms.specs.Texts.{front_of, back_of, is_same, is_short, AreBytes}
 
--- the first so many bytes as digits
-abbrev digits : ℕ → List ℕ → ℕ
-digits zero bs = 0
-digits (suc n) [] = 0
-digits (suc n) (b ∷ bs) = b * 256 ^ n + digits n bs
+-- so many bytes from a place on as digits; one that is missing is 0
+unfoldable digits : ℕ → ℕ → List ℕ → ℕ
+digits zero k bs = 0
+digits (suc n) k bs = slice_index bs k * 256 ^ n + digits n (suc k) bs
 
--- how many bytes there are, or one more than n
-abbrev tag : ℕ → List ℕ → ℕ
-tag n [] = 0
-tag zero (b ∷ bs) = 1
-tag (suc n) (b ∷ bs) = suc (tag n bs)
+digits_none : (n k : ℕ) → digits n k [] ≡ 0
+unfolding digits
+digits_none zero k = refl
+digits_none (suc n) k = let rest = digits_none n (suc k) in omega arith
 
-front_digits : (bs : List ℕ) → front_of bs ≡ digits 8 bs
-unfolding front_of
-front_digits [] = refl
-front_digits (a ∷ []) = omega arith
-front_digits (a ∷ b ∷ []) = omega arith
-front_digits (a ∷ b ∷ c ∷ []) = omega arith
-front_digits (a ∷ b ∷ c ∷ d ∷ []) = omega arith
-front_digits (a ∷ b ∷ c ∷ d ∷ e ∷ []) = omega arith
-front_digits (a ∷ b ∷ c ∷ d ∷ e ∷ f ∷ []) = omega arith
-front_digits (a ∷ b ∷ c ∷ d ∷ e ∷ f ∷ g ∷ []) = omega arith
-front_digits (a ∷ b ∷ c ∷ d ∷ e ∷ f ∷ g ∷ h ∷ rest) = omega arith
+digits_behind : (n k b : ℕ) (bs : List ℕ) → digits n (suc k) (b ∷ bs) ≡ digits n k bs
+unfolding digits
+digits_behind zero k b bs = refl
+digits_behind (suc n) k b bs = ap (λ d. slice_index bs k * 256 ^ n + d) (digits_behind n (suc k) b bs)
 
-digits_on : (bs : List ℕ) → digits 15 bs ≡ digits 8 bs * 256 ^ 7 + digits 7 (drop 8 bs)
-digits_on [] = refl
-digits_on (a ∷ []) = omega arith
-digits_on (a ∷ b ∷ []) = omega arith
-digits_on (a ∷ b ∷ c ∷ []) = omega arith
-digits_on (a ∷ b ∷ c ∷ d ∷ []) = omega arith
-digits_on (a ∷ b ∷ c ∷ d ∷ e ∷ []) = omega arith
-digits_on (a ∷ b ∷ c ∷ d ∷ e ∷ f ∷ []) = omega arith
-digits_on (a ∷ b ∷ c ∷ d ∷ e ∷ f ∷ g ∷ []) = omega arith
-digits_on (a ∷ b ∷ c ∷ d ∷ e ∷ f ∷ g ∷ h ∷ rest) = omega arith
+front_digits : (bs : List ℕ) → front_of bs ≡ digits 8 0 bs
+unfolding front_of digits
+front_digits bs = omega arith
 
-back_digits : (bs : List ℕ) → back_of bs ≡ digits 7 (drop 8 bs) * 256 + tag 15 bs
-unfolding back_of
-back_digits [] = refl
-back_digits (a ∷ []) = omega arith
-back_digits (a ∷ b ∷ []) = omega arith
-back_digits (a ∷ b ∷ c ∷ []) = omega arith
-back_digits (a ∷ b ∷ c ∷ d ∷ []) = omega arith
-back_digits (a ∷ b ∷ c ∷ d ∷ e ∷ []) = omega arith
-back_digits (a ∷ b ∷ c ∷ d ∷ e ∷ f ∷ []) = omega arith
-back_digits (a ∷ b ∷ c ∷ d ∷ e ∷ f ∷ g ∷ []) = omega arith
-back_digits (a ∷ b ∷ c ∷ d ∷ e ∷ f ∷ g ∷ h ∷ []) = omega arith
-back_digits (a ∷ b ∷ c ∷ d ∷ e ∷ f ∷ g ∷ h ∷ i ∷ []) = omega arith
-back_digits (a ∷ b ∷ c ∷ d ∷ e ∷ f ∷ g ∷ h ∷ i ∷ j ∷ []) = omega arith
-back_digits (a ∷ b ∷ c ∷ d ∷ e ∷ f ∷ g ∷ h ∷ i ∷ j ∷ k ∷ []) = omega arith
-back_digits (a ∷ b ∷ c ∷ d ∷ e ∷ f ∷ g ∷ h ∷ i ∷ j ∷ k ∷ l ∷ []) = omega arith
-back_digits (a ∷ b ∷ c ∷ d ∷ e ∷ f ∷ g ∷ h ∷ i ∷ j ∷ k ∷ l ∷ m ∷ []) = omega arith
-back_digits (a ∷ b ∷ c ∷ d ∷ e ∷ f ∷ g ∷ h ∷ i ∷ j ∷ k ∷ l ∷ m ∷ n ∷ []) = omega arith
-back_digits (a ∷ b ∷ c ∷ d ∷ e ∷ f ∷ g ∷ h ∷ i ∷ j ∷ k ∷ l ∷ m ∷ n ∷ o ∷ []) = omega arith
-back_digits (a ∷ b ∷ c ∷ d ∷ e ∷ f ∷ g ∷ h ∷ i ∷ j ∷ k ∷ l ∷ m ∷ n ∷ o ∷ p ∷ rest) = omega arith
+digits_on : (bs : List ℕ) → digits 15 0 bs ≡ digits 8 0 bs * 256 ^ 7 + digits 7 8 bs
+unfolding digits
+digits_on bs = omega arith
+
+back_digits : (bs : List ℕ) → back_of bs ≡ digits 7 8 bs * 256 + min (length bs) 16
+unfolding back_of digits
+back_digits bs = omega arith
 
 one_more : (x y p d e : ℕ) → y < x → d < p → e < p → y * p + e < x * p + d
 one_more x y p d e h l m = grind arith
 
-digits_below : (n : ℕ) (bs : List ℕ) → AreBytes bs → digits n bs < 256 ^ n
-digits_below zero bs h = omega arith
-digits_below (suc n) [] h = let one_at_least : 1 ≤ 256 ^ suc n = one-le-pow (suc n) 256 (lit< tt) in omega arith
-digits_below (suc n) (b ∷ bs) h =
-    let head : b < 256 = h 0 in
-    let tail : digits n bs < 256 ^ n = digits_below n bs (λ k. h (suc k)) in
-    grind (arith, one_more 256 b (256 ^ n) 0 (digits n bs))
+digits_below : (n k : ℕ) (bs : List ℕ) → AreBytes bs → digits n k bs < 256 ^ n
+unfolding digits
+digits_below zero k bs h = omega arith
+digits_below (suc n) k bs h =
+    let head : slice_index bs k < 256 = h k in
+    let tail : digits n (suc k) bs < 256 ^ n = digits_below n (suc k) bs h in
+    grind (arith, one_more 256 (slice_index bs k) (256 ^ n) 0 (digits n (suc k) bs))
 
-by_head : (n x y : ℕ) (xs ys : List ℕ) (o : Ordering) → o ≡ nat_cmp x y → digits n xs < 256 ^ n → digits n ys < 256 ^ n → (digits n xs < digits n ys → slice_cmp nat_cmp xs ys ≡ Less) → x * 256 ^ n + digits n xs < y * 256 ^ n + digits n ys → ordering_then o (slice_cmp nat_cmp xs ys) ≡ Less
-by_head n x y xs ys Less e l m rest h = refl
-by_head n x y xs ys Equal e l m rest h = let same : x ≡ y = ranked x y Equal e in rest (grind arith)
-by_head n x y xs ys Greater e l m rest h = let above : y < x = ranked x y Greater e in absurd (grind (arith, one_more x y (256 ^ n) (digits n xs) (digits n ys)))
+by_head : (x y p d e : ℕ) (o rest : Ordering) → o ≡ nat_cmp x y → d < p → e < p → (d < e → rest ≡ Less) → x * p + d < y * p + e → ordering_then o rest ≡ Less
+by_head x y p d e o rest c l m so h = grind (arith, nat_tests, one_more x y p d e)
 
-digits_order : (n : ℕ) (a b : List ℕ) → AreBytes a → AreBytes b → digits n a < digits n b → slice_cmp nat_cmp a b ≡ Less
+digits_order : (n : ℕ) (a b : List ℕ) → AreBytes a → AreBytes b → digits n 0 a < digits n 0 b → slice_cmp nat_cmp a b ≡ Less
+unfolding digits
 digits_order zero a b p q h = absurd (omega arith)
 digits_order (suc n) [] [] p q h = absurd (omega arith)
 digits_order (suc n) [] (y ∷ ys) p q h = refl
-digits_order (suc n) (x ∷ xs) [] p q h = absurd (omega arith)
+digits_order (suc n) (x ∷ xs) [] p q h = absurd (omega (arith, digits_none n 1))
 digits_order (suc n) (x ∷ xs) (y ∷ ys) p q h =
-    by_head n x y xs ys (nat_cmp x y) refl (digits_below n xs (λ k. p (suc k))) (digits_below n ys (λ k. q (suc k))) (digits_order n xs ys (λ k. p (suc k)) (λ k. q (suc k))) h
-
-tag_least : (n : ℕ) (bs : List ℕ) → tag n bs ≤ suc n
-tag_least n [] = omega arith
-tag_least zero (b ∷ bs) = omega arith
-tag_least (suc n) (b ∷ bs) = let rest : tag n bs ≤ suc n = tag_least n bs in omega arith
+    by_head x y (256 ^ n) (digits n 1 (x ∷ xs)) (digits n 1 (y ∷ ys)) (nat_cmp x y) (slice_cmp nat_cmp xs ys) refl (digits_below n 1 (x ∷ xs) p) (digits_below n 1 (y ∷ ys) q)
+    (λ less. digits_order n xs ys (λ k. p (suc k)) (λ k. q (suc k)) (omega (arith, less, digits_behind n 0 x xs, digits_behind n 0 y ys))) h
 
 -- two numbers of digits are the same where their heads and their tails are
-heads : (n x y : ℕ) (xs ys : List ℕ) → digits n xs < 256 ^ n → digits n ys < 256 ^ n → x * 256 ^ n + digits n xs ≡ y * 256 ^ n + digits n ys → (o : Ordering) → o ≡ nat_cmp x y → (x ≡ y) × (digits n xs ≡ digits n ys)
-heads n x y xs ys l m e Less c = let below : x < y = ranked x y Less c in absurd (grind (arith, one_more y x (256 ^ n) (digits n ys) (digits n xs)))
-heads n x y xs ys l m e Equal c = let same : x ≡ y = ranked x y Equal c in (same, grind arith)
-heads n x y xs ys l m e Greater c = let above : y < x = ranked x y Greater c in absurd (grind (arith, one_more x y (256 ^ n) (digits n xs) (digits n ys)))
+heads : (n x y : ℕ) (xs ys : List ℕ) → AreBytes (x ∷ xs) → AreBytes (y ∷ ys) → digits (suc n) 0 (x ∷ xs) ≡ digits (suc n) 0 (y ∷ ys) → (x ≡ y) × (digits n 0 xs ≡ digits n 0 ys)
+unfolding digits
+heads n x y xs ys p q e =
+    let both = same_from_place x (digits n 1 (x ∷ xs)) y (digits n 1 (y ∷ ys)) (256 ^ n) (digits_below n 1 (x ∷ xs) p) (digits_below n 1 (y ∷ ys) q) e in
+    (both.0, sym (digits_behind n 0 x xs) ∙ both.1 ∙ digits_behind n 0 y ys)
 
-heads_of : (n x y : ℕ) (xs ys : List ℕ) → AreBytes (x ∷ xs) → AreBytes (y ∷ ys) → digits (suc n) (x ∷ xs) ≡ digits (suc n) (y ∷ ys) → (x ≡ y) × (digits n xs ≡ digits n ys)
-heads_of n x y xs ys p q e = heads n x y xs ys (digits_below n xs (λ k. p (suc k))) (digits_below n ys (λ k. q (suc k))) e (nat_cmp x y) refl
+nat_cmp-suc : (a b : ℕ) → nat_cmp a b ≡ nat_cmp (suc a) (suc b)
+nat_cmp-suc a b = grind (arith, nat_tests)
 
--- of texts with the same digits the shorter one stands first
-tied : (n : ℕ) (a b : List ℕ) → AreBytes a → AreBytes b → digits n a ≡ digits n b → tag n a < tag n b → slice_cmp nat_cmp a b ≡ Less
-tied n [] [] p q e h = absurd (omega arith)
-tied n [] (y ∷ ys) p q e h = refl
-tied zero (x ∷ xs) [] p q e h = absurd (omega arith)
-tied zero (x ∷ xs) (y ∷ ys) p q e h = absurd (omega arith)
-tied (suc n) (x ∷ xs) [] p q e h = absurd (omega arith)
-tied (suc n) (x ∷ xs) (y ∷ ys) p q e h =
-    let both = heads_of n x y xs ys p q e in
-    let rest = tied n xs ys (λ k. p (suc k)) (λ k. q (suc k)) both.1 (omega arith) in
+-- texts of the same digits, which are all of one of them, are ordered by their lengths
+by_lengths : (n : ℕ) (a b : List ℕ) → AreBytes a → AreBytes b → digits n 0 a ≡ digits n 0 b → length a ≤ n → slice_cmp nat_cmp a b ≡ nat_cmp (length a) (length b)
+by_lengths n [] [] p q e h = refl
+by_lengths n [] (y ∷ ys) p q e h = nat_cmp_is 0 (suc (length ys)) Less (omega arith)
+by_lengths n (x ∷ xs) [] p q e h = nat_cmp_is (suc (length xs)) 0 Greater (omega arith)
+by_lengths zero (x ∷ xs) (y ∷ ys) p q e h = absurd (omega arith)
+by_lengths (suc n) (x ∷ xs) (y ∷ ys) p q e h =
+    let both = heads n x y xs ys p q e in
     let equal : nat_cmp x y ≡ Equal = sym (nat_cmp_is x y Equal both.0) in
-    rw (equal) rest
+    rw (equal) (by_lengths n xs ys (λ k. p (suc k)) (λ k. q (suc k)) both.1 (omega arith) ∙ nat_cmp-suc (length xs) (length ys))
 
-short_same : (n : ℕ) (a b : List ℕ) → AreBytes a → AreBytes b → digits n a ≡ digits n b → tag n a ≡ tag n b → tag n a ≤ n → a ≡ b
-short_same n [] [] p q e t h = refl
-short_same zero [] (y ∷ ys) p q e t h = absurd (omega arith)
-short_same (suc n) [] (y ∷ ys) p q e t h = absurd (omega arith)
-short_same zero (x ∷ xs) b p q e t h = absurd (omega arith)
-short_same (suc n) (x ∷ xs) [] p q e t h = absurd (omega arith)
-short_same (suc n) (x ∷ xs) (y ∷ ys) p q e t h =
-    let both = heads_of n x y xs ys p q e in
-    let rest = short_same n xs ys (λ k. p (suc k)) (λ k. q (suc k)) both.1 (omega arith) (omega arith) in
-    cc
-
-front_below : (a b : List ℕ) → AreBytes a → AreBytes b → front_of a < front_of b → slice_cmp nat_cmp a b ≡ Less
-front_below a b p q h = digits_order 8 a b p q (omega (arith, front_digits a, front_digits b))
-
-fifteen : (a b : List ℕ) → front_of a ≡ front_of b → digits 15 a + digits 7 (drop 8 b) ≡ digits 15 b + digits 7 (drop 8 a)
+fifteen : (a b : List ℕ) → front_of a ≡ front_of b → digits 15 0 a + digits 7 8 b ≡ digits 15 0 b + digits 7 8 a
 fifteen a b e = omega (arith, e, front_digits a, front_digits b, digits_on a, digits_on b)
 
-back_below_by : (a b : List ℕ) (o : Ordering) → o ≡ nat_cmp (digits 15 a) (digits 15 b) → AreBytes a → AreBytes b → front_of a ≡ front_of b → back_of a < back_of b → slice_cmp nat_cmp a b ≡ Less
-back_below_by a b Less c p q e h = digits_order 15 a b p q (ranked (digits 15 a) (digits 15 b) Less c)
-back_below_by a b Equal c p q e h =
-    let same : digits 15 a ≡ digits 15 b = ranked (digits 15 a) (digits 15 b) Equal c in
-    tied 15 a b p q same (omega (arith, same, fifteen a b e, back_digits a, back_digits b))
-back_below_by a b Greater c p q e h =
-    let above : digits 15 b < digits 15 a = ranked (digits 15 a) (digits 15 b) Greater c in
-    absurd (omega (arith, above, fifteen a b e, back_digits a, back_digits b, tag_least 15 a, tag_least 15 b))
-
 back_below : (a b : List ℕ) → AreBytes a → AreBytes b → front_of a ≡ front_of b → back_of a < back_of b → slice_cmp nat_cmp a b ≡ Less
-back_below a b p q e h = back_below_by a b (nat_cmp (digits 15 a) (digits 15 b)) refl p q e h
+back_below a b p q e h = elim (cases_order (digits 15 0 a) (digits 15 0 b)) [
+  | inl same ↦
+      let small : length a ≤ 15 = omega (arith, same, fifteen a b e, back_digits a, back_digits b) in
+      let shorter : length a < length b = omega (arith, same, fifteen a b e, back_digits a, back_digits b) in
+      by_lengths 15 a b p q same small ∙ sym (nat_cmp_is (length a) (length b) Less shorter)
+  | inr (inl below) ↦ digits_order 15 a b p q below
+  | inr (inr above) ↦ absurd (omega (arith, above, fifteen a b e, back_digits a, back_digits b))
+]
 
-by_front : (a b : List ℕ) (o : Ordering) → AreBytes a → AreBytes b → front_of a ≢ front_of b → o ≡ nat_cmp (front_of a) (front_of b) → o ≡ slice_cmp nat_cmp a b
-by_front a b Less p q n e = sym (front_below a b p q (ranked (front_of a) (front_of b) Less e))
-by_front a b Equal p q n e = absurd (n (ranked (front_of a) (front_of b) Equal e))
-by_front a b Greater p q n e = sym (nat_list_cmp_total.antisymm a b ∙ ap ordering_reverse (front_below b a q p (ranked (front_of a) (front_of b) Greater e)))
+-- numbers by which two texts are ordered
+by_rank : (x y : ℕ) (a b : List ℕ) (o : Ordering) → x ≢ y → o ≡ nat_cmp x y → (x < y → slice_cmp nat_cmp a b ≡ Less) → (y < x → slice_cmp nat_cmp b a ≡ Less) → o ≡ slice_cmp nat_cmp a b
+by_rank x y a b o n e below above = grind (arith, nat_tests, nat_list_cmp_total.antisymm a b)
 
 -- x and y are the fronts of two texts
 pub front_order : (a b : List ℕ) (x y : ℕ) (o : Ordering) → x ≡ front_of a → y ≡ front_of b → AreBytes a → AreBytes b → x ≢ y → o ≡ nat_cmp x y → o ≡ slice_cmp nat_cmp a b
 front_order a b x y o i j p q n e =
-    let across : o ≡ nat_cmp (front_of a) (front_of b) = cc in
-    by_front a b o p q (λ same. n (i ∙ same ∙ sym j)) across
-
-by_back : (a b : List ℕ) (o : Ordering) → AreBytes a → AreBytes b → front_of a ≡ front_of b → back_of a ≢ back_of b → o ≡ nat_cmp (back_of a) (back_of b) → o ≡ slice_cmp nat_cmp a b
-by_back a b Less p q e n c = sym (back_below a b p q e (ranked (back_of a) (back_of b) Less c))
-by_back a b Equal p q e n c = absurd (n (ranked (back_of a) (back_of b) Equal c))
-by_back a b Greater p q e n c = sym (nat_list_cmp_total.antisymm a b ∙ ap ordering_reverse (back_below b a q p (sym e) (ranked (back_of a) (back_of b) Greater c)))
+    by_rank x y a b o n e (λ below. digits_order 8 a b p q (omega (arith, below, front_digits a, front_digits b)))
+    (λ above. digits_order 8 b a q p (omega (arith, above, front_digits a, front_digits b)))
 
 -- f and g are the fronts of two texts, and x and y their backs
 pub back_order : (a b : List ℕ) (f g x y : ℕ) (o : Ordering) → f ≡ front_of a → g ≡ front_of b → x ≡ back_of a → y ≡ back_of b → AreBytes a → AreBytes b → f ≡ g → x ≢ y → o ≡ nat_cmp x y → o ≡ slice_cmp nat_cmp a b
 back_order a b f g x y o k l i j p q e n c =
-    let across : o ≡ nat_cmp (back_of a) (back_of b) = cc in
-    by_back a b o p q (sym k ∙ e ∙ l) (λ same. n (i ∙ same ∙ sym j)) across
-
-short_equal : (a b : List ℕ) → AreBytes a → AreBytes b → front_of a ≡ front_of b → back_of a ≡ back_of b → is_short (back_of a) ≡ true → a ≡ b
-short_equal a b p q e h w =
-    let low : back_of a % 256 < 16 = ltb-true (back_of a % 256) 16 w in
-    let short : tag 15 a ≤ 15 = omega (arith, low, back_digits a, tag_least 15 a) in
-    let tags : tag 15 a ≡ tag 15 b = omega (arith, h, back_digits a, back_digits b, tag_least 15 a, tag_least 15 b) in
-    let rests : digits 7 (drop 8 a) ≡ digits 7 (drop 8 b) = omega (arith, h, tags, back_digits a, back_digits b) in
-    short_same 15 a b p q (omega (arith, rests, fifteen a b e)) tags short
-
-level : (a : List ℕ) → slice_cmp nat_cmp a a ≡ Equal
-level [] = refl
-level (x ∷ xs) = let equal : nat_cmp x x ≡ Equal = sym (nat_cmp_is x x Equal refl) in rw (equal) (level xs)
+    by_rank x y a b o n c (λ below. back_below a b p q (sym k ∙ e ∙ l) (omega (arith, below))) (λ above. back_below b a q p (sym l ∙ sym e ∙ k) (omega (arith, above)))
 
 -- of short texts with one front and one back
 pub short_tie : (a b : List ℕ) (f g x y : ℕ) → f ≡ front_of a → g ≡ front_of b → x ≡ back_of a → y ≡ back_of b → AreBytes a → AreBytes b → f ≡ g → x ≡ y → is_short x ≡ true → Equal ≡ slice_cmp nat_cmp a b
 short_tie a b f g x y k l i j p q e h w =
-    let short : is_short (back_of a) ≡ true = sym (ap is_short i) ∙ w in
-    sym (ap (slice_cmp nat_cmp a) (sym (short_equal a b p q (sym k ∙ e ∙ l) (sym i ∙ h ∙ j) short)) ∙ level a)
+    let low : x % 256 < 16 = ltb-true (x % 256) 16 w in
+    let small : length a ≤ 15 = omega (arith, low, i, back_digits a) in
+    let lengths : length a ≡ length b = omega (arith, small, h, i, j, back_digits a, back_digits b) in
+    let rests : digits 7 8 a ≡ digits 7 8 b = omega (arith, lengths, h, i, j, back_digits a, back_digits b) in
+    nat_cmp_is (length a) (length b) Equal lengths ∙ sym (by_lengths 15 a b p q (omega (arith, rests, fifteen a b (sym k ∙ e ∙ l))) small)
 
 pub short_same_text : (a b : List ℕ) (f g x y : ℕ) → f ≡ front_of a → g ≡ front_of b → x ≡ back_of a → y ≡ back_of b → AreBytes a → AreBytes b → f ≡ g → x ≡ y → is_short x ≡ true → true ≡ is_same a b
 short_same_text a b f g x y k l i j p q e h w = ap is_eq (short_tie a b f g x y k l i j p q e h w) ∙ is_eq-slice_cmp a b

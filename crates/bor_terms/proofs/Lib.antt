@@ -1,9 +1,7 @@
 pub mod AnyPoint
 pub mod Held
-pub mod Civil
 pub mod Shown
 pub mod Years
-pub mod Digits
 pub mod Texts
 pub mod Fronts
 pub mod Examples

@@ -1,44 +1,41 @@
--- The days of the years from 0 to 9999.
-use Rattle.std.proofs.Common.{◌≡◌, inl, inr, ℤ, pos, negsuc, neg_ℤ, ◌≤ℤ◌, ◌<ℤ◌, refl, arith, rules, lit≤}
+-- The days of the years from 0 to 9999, and of a date of the calendar.
+use Rattle.std.proofs.Common.{◌≡◌, ℕ, true, Some, inl, ℤ, pos, neg_ℤ, ◌≤ℤ◌, ◌<ℤ◌, refl, arith, rules, lit≤}
 use Rattle.std.proofs.lemmas.Int.{ints}
+use Rattle.std.proofs.lemmas.Bool.Decides.{nat_tests}
 use Rattle.jiff_core.specs.declared.civil.date.Date.{Date}
-use Rattle.jiff_core.specs.Calendar.{IsYear, days_from_civil, day_count, days_of_years, days_of_months}
-use Rattle.jiff_core.specs.Date.{epoch_day}
+use Rattle.jiff_core.specs.Calendar.{IsDate, days_from_civil, day_count, days_of_years, days_of_months}
+use Rattle.jiff_core.specs.Date.{epoch_day, IsYmd}
 use Rattle.jiff_core.proofs.DateLemmas.{epoch_day-lt, epoch_day_range, epoch_day_same, cases_date}
-use Rattle.bor_terms.specs.Day.{IsDay}
-
-year_0 : IsYear (pos 0)
-year_0 = search rules
+use Rattle.bor_terms.specs.Day.{IsDay, is_civil, number_of}
 
 -- 1 January of the year 0
 start : Date
-start = record { year = pos 0; month = 1; day = 1; year_in = year_0; month_in = (lit≤ tt, lit≤ tt); day_in = (lit≤ tt, lit≤ tt) }
-
-first_day : days_from_civil (pos 0) 1 1 ≡ neg_ℤ (pos 719528)
-unfolding days_from_civil day_count days_of_years days_of_months
-first_day = refl
+start = record { year = pos 0; month = 1; day = 1; year_in = search rules; month_in = (lit≤ tt, lit≤ tt); day_in = (lit≤ tt, lit≤ tt) }
 
 start_day : epoch_day start ≡ neg_ℤ (pos 719528)
-unfolding start
-start_day = first_day
+unfolding start days_from_civil day_count days_of_years days_of_months
+start_day = refl
 
 below_start : (d : Date) → d.year <ℤ pos 0 → epoch_day d <ℤ neg_ℤ (pos 719528)
 unfolding start
 below_start d h = rw (← start_day) (epoch_day-lt d start (inl h))
 
 pub year-from_IsDay : (d : Date) → IsDay (epoch_day d) → pos 0 ≤ℤ d.year
-year-from_IsDay d h = by_sign d.year (λ neg. below_start d neg) h.0
-  where
-    by_sign : (y : ℤ) → (y <ℤ pos 0 → epoch_day d <ℤ neg_ℤ (pos 719528)) → neg_ℤ (pos 719528) ≤ℤ epoch_day d → pos 0 ≤ℤ y
-    by_sign (pos n) f le = omega (arith, ints)
-    by_sign (negsuc n) f le = absurd (let lt = f (omega (arith, ints)) in omega (arith, ints))
+year-from_IsDay d h = grind (arith, ints, below_start d)
 
 pub IsDay-from_year : (d : Date) → pos 0 ≤ℤ d.year → IsDay (epoch_day d)
 unfolding start
-IsDay-from_year d le =
-    let range = epoch_day_range d in
-    elim (cases_date start d) [
-      | inl earlier ↦ let lt = epoch_day-lt start d earlier in let s = start_day in (omega (arith, ints), omega (arith, ints))
-      | inr (inl later) ↦ absurd (elim later [ inl year ↦ omega (arith, ints) | inr (year, inl month) ↦ omega (arith, ints, d.month_in) | inr (year, inr day) ↦ omega (arith, ints, d.day_in) ])
-      | inr (inr same) ↦ let e = epoch_day_same start d same.0 same.1 same.2 in let s = start_day in (omega (arith, ints), omega (arith, ints))
-    ]
+IsDay-from_year d le = grind (arith, ints, start_day, cases_date start d, epoch_day-lt start d, epoch_day_same start d, epoch_day_range d, d.month_in, d.day_in)
+
+-- ---- a date beside the test of its parts
+
+is_civil-from_IsDate : (y m d : ℕ) → IsDate (pos y) (pos m) (pos d) → is_civil y m d ≡ true
+is_civil-from_IsDate y m d h = grind (arith, nat_tests, ints)
+
+pub number_of-date : (y m d : ℕ) (date : Date) (zy zm zd : ℤ) → zy ≡ pos y → zm ≡ pos m → zd ≡ pos d → IsDate zy zm zd → IsYmd zy zm zd date → number_of y m d ≡ Some (epoch_day date)
+unfolding number_of
+number_of-date y m d date zy zm zd ey em ed civil ymd =
+    let im : date.month ≡ m = omega (arith, ints) in
+    let id : date.day ≡ d = omega (arith, ints) in
+    let ok = rw (ey, em, ed) at civil in
+    rw (is_civil-from_IsDate y m d ok, ymd.0, ey, im, id) refl

@@ -180,6 +180,7 @@ impl<F: Form> Ord for Text<F> {
 }
 
 // The first eight bytes as a number, the first of them the highest; a byte that is missing is 0.
+#[tactic(auto, unfolding(crate::specs::Texts::front_of))]
 fn front_of(bytes: &[u8]) -> u64
     ensures front { result ≡ front_of bytes.now }
     ensures bytes { AreBytes bytes.now }
@@ -197,6 +198,7 @@ fn front_of(bytes: &[u8]) -> u64
 }
 
 // The next seven bytes and the length as a number.
+#[tactic(auto, unfolding(crate::specs::Texts::back_of))]
 fn back_of(bytes: &[u8]) -> u64
     ensures { result ≡ back_of bytes.now }
 {

@@ -1,8 +1,7 @@
 use Rattle.std.proofs.Common.{refl, sym, ap, ◌∙◌, arith, FitsSigned, to_z, w8, w16, w32, Some}
 use Rattle.std.proofs.lemmas.Int.{ints, to_z-of_z, to_z_pos}
 use Rattle.jiff_core.specs.Date.{epoch_day}
-use Rattle.bor_terms.proofs.Civil.{number_of-date}
-use Rattle.bor_terms.proofs.Years.{IsDay-from_year}
+use Rattle.bor_terms.proofs.Years.{IsDay-from_year, number_of-date}
 use Rattle.bor_terms.proofs.day.of_civil.Goals as goal
 
 pub returns-in-Ok : goal.returns-in-Ok

@@ -4,9 +4,8 @@ use Rattle.std.proofs.lemmas.Int.{ints, to_z-of_z}
 use Rattle.jiff_core.specs.Calendar.{days_from_civil, IsDate, IsCivilDate}
 use Rattle.jiff_core.proofs.CalendarLemmas.{days_in_month_bounds}
 use Rattle.bor_terms.specs.Day.{day_of, day_text, IsSpelling}
-use Rattle.bor_terms.proofs.Civil.{number_of-date}
-use Rattle.bor_terms.proofs.Digits.{civil_text-named}
-use Rattle.bor_terms.proofs.DayTexts.{day_text-civil}
+use Rattle.bor_terms.proofs.Years.{number_of-date}
+use Rattle.bor_terms.proofs.DayTexts.{civil_text-named, day_text-civil}
 use Rattle.bor_terms.proofs.Spelling.{one_spelling}
 use Rattle.bor_terms.proofs.day.Day.text.Goals as goal
 
