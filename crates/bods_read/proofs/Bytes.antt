@@ -1,6 +1,7 @@
 -- The value of bytes.
-use Rattle.std.proofs.Common.{◌≡◌, ℕ, List, Bool, true, false, cond, Some, None, Err, refl, sym, ap, ◌∙◌}
+use Rattle.std.proofs.Common.{◌≡◌, ℕ, List, Some, None, Err, refl, sym, ap, ◌∙◌}
 use Rattle.std.specs.Str.{IsUtf8, is_utf8}
+use Rattle.std.proofs.lemmas.Bool.{cond_both}
 use Rattle.std.proofs.lemmas.Str.{IsUtf8-from_is_utf8, is_utf8-from_IsUtf8}
 use Rattle.serde_json.specs.Data.{Data}
 use Rattle.serde_json.specs.Read.{read}
@@ -12,13 +13,9 @@ pub value_of-read : (bytes : List ℕ) (d : Data) → IsUtf8 bytes × (read byte
 unfolding value_of
 value_of-read bytes d h = rw (is_utf8-from_IsUtf8 bytes h.0) h.1
 
-unread : (bytes : List ℕ) (b : Bool) → is_utf8 bytes ≡ b → (IsUtf8 bytes → read bytes ≡ None) → cond b (read bytes) None ≡ None
-unread bytes true e h = h (IsUtf8-from_is_utf8 bytes e)
-unread bytes false e h = refl
-
 pub value_of-unread : (bytes : List ℕ) → (IsUtf8 bytes → read bytes ≡ None) → value_of bytes ≡ None
 unfolding value_of
-value_of-unread bytes h = unread bytes _ refl h
+value_of-unread bytes h = cond_both (is_utf8 bytes) (read bytes) None (λ o. o ≡ None) (λ e. h (IsUtf8-from_is_utf8 bytes e)) (λ e. refl)
 
 -- why bytes have no value is why they are not read
 pub unread-no_value : (bytes : List ℕ) (wanting : Type 0) (why : ReadFault) → IsNoValue wanting why → (¬ wanting → value_of bytes ≡ None) → IsUnread why (reading bytes)

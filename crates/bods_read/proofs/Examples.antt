@@ -58,62 +58,52 @@ statements_limit-code = refl
 items_limit-code : ITEMS_LIMIT ≡ items_limit
 items_limit-code = refl
 
--- ---- files refused whole
-
-not_json : reading (codes "[{\"statementId\":\"s1\"") ≡ Err NotJson
-unfolding reader
-not_json = refl
-
-no_utf8 : reading (91 ∷ 34 ∷ 255 ∷ 34 ∷ 93 ∷ []) ≡ Err NotJson
-unfolding reader
-no_utf8 = refl
-
-not_a_list : reading (codes "{}") ≡ Err NotAList
-unfolding reader
-not_a_list = refl
-
-no_statements : reading (codes "[]") ≡ Err NoStatements
-unfolding reader
-no_statements = refl
-
-first_missing : reading (codes "[{}]") ≡ Err (At 1 (Missing fields.StatementId))
-unfolding reader
-first_missing = refl
-
-no_object : reading (codes "[7]") ≡ Err (At 1 (Bad fields.Statement))
-unfolding reader
-no_object = refl
+-- ---- files beside the fault that refuses them
 
 -- a list of so many empty objects and one more
 abbrev further : ℕ → List ℕ
 further zero = codes "{}]"
 further (suc n) = codes "{}," ++ further n
 
-too_many : reading (codes "[" ++ further 1000) ≡ Err TooMany
-unfolding reader
-too_many = refl
+abbrev AreRefused : List (List ℕ × FileFault) → Type 0
+AreRefused cases = map (λ c. reading c.0) cases ≡ map (λ c. Err c.1) cases
 
-not_too_many : reading (codes "[" ++ further 999) ≡ Err (At 1 (Missing fields.StatementId))
+-- the first two are no JSON, and no UTF-8; the last have 1001 statements, and 1000
+refused : AreRefused (
+    (codes "[{\"statementId\":\"s1\"", NotJson)
+    ∷ (91 ∷ 34 ∷ 255 ∷ 34 ∷ 93 ∷ [], NotJson)
+    ∷ (codes "{}", NotAList)
+    ∷ (codes "[]", NoStatements)
+    ∷ (codes "[{}]", At 1 (Missing fields.StatementId))
+    ∷ (codes "[7]", At 1 (Bad fields.Statement))
+    ∷ (codes "[" ++ further 1000, TooMany)
+    ∷ (codes "[" ++ further 999, At 1 (Missing fields.StatementId))
+    ∷ [])
 unfolding reader
-not_too_many = refl
+refused = refl
 
 -- ---- all faults of a file
 
 abbrev all_faults : List ℕ → Option (List FileFault)
 all_faults text = option_map faults (value_of text)
 
--- every line about an absent member, and every line about a member that is not as stated
-missing : all_faults (codes "[{}]")
-    ≡ Some (map (At 1) (Missing fields.StatementId ∷ Missing fields.StatementDate ∷ Missing fields.DeclarationSubject
-    ∷ Missing fields.RecordId ∷ Missing fields.RecordType ∷ Missing fields.RecordDetails ∷ []))
-unfolding reader
-missing = refl
+-- files beside their faults, all of which are at place 1
+abbrev Cases : Type 0
+Cases = List (List ℕ × List Fault)
 
-bad : all_faults (codes "[{\"statementId\":7,\"statementDate\":7,\"declarationSubject\":7,\"recordId\":7,\"recordType\":7,\"recordStatus\":7,\"recordDetails\":7}]")
-    ≡ Some (map (At 1) (Bad fields.StatementId ∷ Bad fields.StatementDate ∷ Bad fields.DeclarationSubject
-    ∷ Bad fields.RecordId ∷ Bad fields.RecordType ∷ Bad fields.RecordStatus ∷ Bad fields.RecordDetails ∷ []))
+abbrev AreFound : Cases → Type 0
+AreFound cases = map (λ c. all_faults c.0) cases ≡ map (λ c. Some (map (At 1) c.1)) cases
+
+-- every line about an absent member, and every line about a member that is not as stated
+every_line : AreFound (
+    (codes "[{}]", Missing fields.StatementId ∷ Missing fields.StatementDate ∷ Missing fields.DeclarationSubject ∷ Missing fields.RecordId ∷ Missing fields.RecordType ∷ Missing fields.RecordDetails ∷ [])
+    ∷ (
+      codes "[{\"statementId\":7,\"statementDate\":7,\"declarationSubject\":7,\"recordId\":7,\"recordType\":7,\"recordStatus\":7,\"recordDetails\":7}]",
+      Bad fields.StatementId ∷ Bad fields.StatementDate ∷ Bad fields.DeclarationSubject ∷ Bad fields.RecordId ∷ Bad fields.RecordType ∷ Bad fields.RecordStatus ∷ Bad fields.RecordDetails ∷ [],
+    )
+    ∷ [])
 unfolding reader
-bad = refl
+every_line = refl
 
 -- ---- one line, and two neighbours
 
@@ -122,19 +112,8 @@ abbrev entity_and : List ℕ → List ℕ
 entity_and more =
     codes "[{\"statementId\":\"s1\",\"statementDate\":\"2024-01-10\",\"declarationSubject\":\"c1\",\"recordId\":\"e1\",\"recordType\":\"entity\",\"recordDetails\":{\"entityType\":{\"type\":\"registeredEntity\"}}" ++ more ++ codes "}]"
 
--- files beside their faults, which are all at place 1
-abbrev Cases : Type 0
-Cases = List (List ℕ × List Fault)
-
-abbrev found : Cases → List (Option (List FileFault))
-found cases = map (λ c. all_faults c.0) cases
-
-abbrev expected : Cases → List (Option (List FileFault))
-expected cases = map (λ c. Some (map (At 1) c.1)) cases
-
 -- no line, and each line alone; null counts as absent
-abbrev single : Cases
-single =
+single : AreFound (
     (entity_and (codes ""), [])
     ∷ (entity_and (codes ",\"statementId\":\"\""), Bad fields.StatementId ∷ [])
     ∷ (entity_and (codes ",\"statementDate\":\"2023-02-29\""), Bad fields.StatementDate ∷ [])
@@ -153,15 +132,12 @@ single =
     ∷ (entity_and (codes ",\"recordDetails\":{\"identifiers\":{}}"), Bad fields.Identifiers ∷ [])
     ∷ (entity_and (codes ",\"recordDetails\":{\"identifiers\":[]}"), [])
     ∷ (entity_and (codes ",\"recordDetails\":{\"identifiers\":null}"), [])
-    ∷ []
-
-single_found : found single ≡ expected single
+    ∷ [])
 unfolding reader
-single_found = refl
+single = refl
 
 -- each line with the next; nothing is asked of the details of no known type
-abbrev neighbours : Cases
-neighbours =
+neighbours : AreFound (
     (entity_and (codes ",\"statementId\":\"\",\"statementDate\":\"2023-02-29\""), Bad fields.StatementId ∷ Bad fields.StatementDate ∷ [])
     ∷ (entity_and (codes ",\"statementDate\":\"2023-02-29\",\"declarationSubject\":\"\\u007f\""), Bad fields.StatementDate ∷ Bad fields.DeclarationSubject ∷ [])
     ∷ (entity_and (codes ",\"declarationSubject\":\"\\u007f\",\"recordId\":{}"), Bad fields.DeclarationSubject ∷ Bad fields.RecordId ∷ [])
@@ -177,11 +153,9 @@ neighbours =
     ∷ (entity_and (codes ",\"recordType\":\"company\",\"recordDetails\":{\"identifiers\":7}"), Bad fields.RecordType ∷ [])
     ∷ (entity_and (codes ",\"recordType\":\"person\",\"recordDetails\":{\"identifiers\":7,\"names\":7,\"personType\":7}"), [])
     ∷ (entity_and (codes ",\"recordType\":\"relationship\",\"recordStatus\":\"changed\",\"recordDetails\":{\"interestedParty\":\"p1\"}"), Bad fields.RecordStatus ∷ Missing fields.Subject ∷ [])
-    ∷ []
-
-neighbours_found : found neighbours ≡ expected neighbours
+    ∷ [])
 unfolding reader
-neighbours_found = refl
+neighbours = refl
 
 -- ---- arrays of up to 100 items
 
@@ -198,8 +172,7 @@ interests_as items =
     entity_and (codes ",\"recordType\":\"relationship\",\"recordDetails\":{\"subject\":\"e1\",\"interestedParty\":\"p1\",\"interests\":[" ++ items ++ codes "]}")
 
 -- of 101 items none is looked at; an identifier that is none is passed over; the length comes in its place
-abbrev lengths : Cases
-lengths =
+lengths : AreFound (
     (identifiers_as (many (codes "7") 99), [])
     ∷ (identifiers_as (many (codes "7") 100), TooLong fields.Identifiers ∷ [])
     ∷ (interests_as (many (codes "{}") 99), [])
@@ -207,11 +180,9 @@ lengths =
     ∷ (interests_as (many (codes "7") 100), TooLong fields.Interests ∷ [])
     ∷ (entity_and (codes ",\"recordStatus\":7,\"recordDetails\":{\"identifiers\":[" ++ many (codes "7") 100 ++ codes "]}"), Bad fields.RecordStatus ∷ TooLong fields.Identifiers ∷ [])
     ∷ (entity_and (codes ",\"recordType\":\"relationship\",\"recordDetails\":{\"subject\":\"e1\",\"interests\":[" ++ many (codes "7") 100 ++ codes "]}"), Missing fields.InterestedParty ∷ TooLong fields.Interests ∷ [])
-    ∷ []
-
-lengths_found : found lengths ≡ expected lengths
+    ∷ [])
 unfolding reader
-lengths_found = refl
+lengths = refl
 
 -- ---- relationships
 
@@ -229,8 +200,7 @@ abbrev with_share : List ℕ → List ℕ
 with_share share = interests_of_file (codes "[{\"type\":\"votingRights\",\"share\":" ++ share ++ codes "}]")
 
 -- the ends and the array, each alone and each with its neighbours
-abbrev end_lines : Cases
-end_lines =
+end_lines : AreFound (
     (relationship_with (codes "\"subject\":\"e1\",\"interestedParty\":\"p1\""), [])
     ∷ (relationship_with (codes "\"subject\":\"e1\",\"interestedParty\":\"p1\",\"interests\":null"), [])
     ∷ (relationship_with (codes "\"subject\":\"e1\",\"interestedParty\":\"p1\",\"interests\":[]"), [])
@@ -249,15 +219,12 @@ end_lines =
     ∷ (relationship_with (codes "\"subject\":\"e1\",\"interestedParty\":true,\"interests\":7"), Bad fields.InterestedParty ∷ Bad fields.Interests ∷ [])
     ∷ (relationship_with (codes "\"subject\":\"e1\",\"interests\":[7]"), Missing fields.InterestedParty ∷ Bad fields.Interests ∷ [])
     ∷ (relationship_with (codes "\"subject\":\"e1\",\"interestedParty\":\"\",\"interests\":[{\"type\":\"votingRights\",\"share\":7}]"), Bad fields.InterestedParty ∷ Bad fields.Share ∷ [])
-    ∷ []
-
-end_lines_found : found end_lines ≡ expected end_lines
+    ∷ [])
 unfolding reader
-end_lines_found = refl
+end_lines = refl
 
 -- the interests one after the other; the share is looked at where the type is one of three
-abbrev each_interest : Cases
-each_interest =
+each_interest : AreFound (
     (interests_of_file (codes "[{},{\"type\":null},{\"type\":\"votingRights\"},{\"type\":\"votingRights\",\"share\":null},{\"type\":\"votingRights\",\"share\":{}}]"), [])
     ∷ (interests_of_file (codes "[{\"type\":\"seniorManagingOfficial\",\"share\":{\"exact\":25.5}},{\"type\":7,\"share\":7},{\"share\":[]}]"), [])
     ∷ (interests_of_file (codes "[{\"type\":\"shareholding\",\"share\":7}]"), Bad fields.Share ∷ [])
@@ -266,15 +233,12 @@ each_interest =
     ∷ (interests_of_file (codes "[{\"type\":\"shareholding\",\"share\":[]},7]"), Bad fields.Share ∷ Bad fields.Interests ∷ [])
     ∷ (interests_of_file (codes "[null,{\"type\":\"votingRights\",\"share\":{\"exact\":25.0}}]"), Bad fields.Interests ∷ Fraction ∷ [])
     ∷ (interests_of_file (codes "[{\"type\":\"votingRights\",\"share\":{\"minimum\":2,\"maximum\":1}},{\"type\":\"shareholding\",\"share\":{\"exact\":101}}]"), EmptyShare ∷ ShareRange ∷ [])
-    ∷ []
-
-each_interest_found : found each_interest ≡ expected each_interest
+    ∷ [])
 unfolding reader
-each_interest_found = refl
+each_interest = refl
 
 -- each line about each member of a share
-abbrev members : Cases
-members =
+members : AreFound (
     (with_share (codes "{\"exact\":25.0}"), Fraction ∷ [])
     ∷ (with_share (codes "{\"exact\":101}"), ShareRange ∷ [])
     ∷ (with_share (codes "{\"exact\":\"25\"}"), Bad fields.Exact ∷ [])
@@ -305,15 +269,12 @@ members =
     ∷ (with_share (codes "{\"exclusiveMaximum\":null}"), [])
     ∷ (with_share (codes "{\"exclusiveMaximum\":true}"), [])
     ∷ (with_share (codes "{\"exclusiveMaximum\":false}"), [])
-    ∷ []
-
-members_found : found members ≡ expected members
+    ∷ [])
 unfolding reader
-members_found = refl
+members = refl
 
 -- each with the next; of no points where a member fails nothing is said
-abbrev member_pairs : Cases
-member_pairs =
+member_pairs : AreFound (
     (with_share (codes "{\"minimum\":\"\",\"exact\":{}}"), Bad fields.Exact ∷ Bad fields.Minimum ∷ [])
     ∷ (with_share (codes "{\"maximum\":\"\",\"minimum\":{}}"), Bad fields.Minimum ∷ Bad fields.Maximum ∷ [])
     ∷ (with_share (codes "{\"exclusiveMinimum\":\"\",\"maximum\":{}}"), Bad fields.Maximum ∷ Bad fields.ExclusiveMinimum ∷ [])
@@ -326,15 +287,12 @@ member_pairs =
     ∷ (with_share (codes "{\"exclusiveMinimum\":100,\"exclusiveMaximum\":7.5}"), Fraction ∷ [])
     ∷ (with_share (codes "{\"minimum\":101,\"exclusiveMinimum\":100}"), ShareRange ∷ [])
     ∷ (with_share (codes "{\"exact\":10,\"minimum\":200,\"maximum\":[],\"exclusiveMinimum\":100}"), ShareRange ∷ Bad fields.Maximum ∷ [])
-    ∷ []
-
-member_pairs_found : found member_pairs ≡ expected member_pairs
+    ∷ [])
 unfolding reader
-member_pairs_found = refl
+member_pairs = refl
 
 -- numerals at their edges
-abbrev numerals : Cases
-numerals =
+numerals : AreFound (
     (with_share (codes "{\"exact\":0}"), [])
     ∷ (with_share (codes "{\"exact\":100}"), [])
     ∷ (with_share (codes "{\"exact\":1e2}"), Fraction ∷ [])
@@ -345,11 +303,9 @@ numerals =
     ∷ (with_share (codes "{\"exact\":18446744073709551615}"), ShareRange ∷ [])
     ∷ (with_share (codes "{\"exact\":-9223372036854775808}"), ShareRange ∷ [])
     ∷ (with_share (codes "{\"exact\":-1}"), ShareRange ∷ [])
-    ∷ []
-
-numerals_found : found numerals ≡ expected numerals
+    ∷ [])
 unfolding reader
-numerals_found = refl
+numerals = refl
 
 -- ---- what shares read as
 
@@ -416,12 +372,8 @@ statuses_read = refl
 
 -- ---- what details read as
 
-abbrev details_read : Result (List Statement) FileFault → Result (List Details) FileFault
-details_read (Ok statements) = Ok (map (λ s. s.details) statements)
-details_read (Err fault) = Err fault
-
 -- the name of an entity is a text, an empty one too; a number, null and nothing are no name
-entity_names : map (λ name. details_read (reading (entity_and (codes ",\"recordDetails\":{" ++ name ++ codes "}"))))
+entity_names : map (λ name. read_as (λ s. s.details) (reading (entity_and (codes ",\"recordDetails\":{" ++ name ++ codes "}"))))
     (codes "\"name\":\"Alder\"" ∷ codes "\"name\":\"\"" ∷ codes "\"name\":7" ∷ codes "\"name\":null" ∷ codes "" ∷ [])
     ≡ map (λ name. Ok (Entity entities.Other name [] ∷ [])) (Some (codes "Alder") ∷ Some [] ∷ None ∷ None ∷ None ∷ [])
 unfolding reader
@@ -433,20 +385,20 @@ person_named names =
     codes "[{\"statementId\":\"s1\",\"statementDate\":\"2024-01-10\",\"declarationSubject\":\"c1\",\"recordId\":\"p1\",\"recordType\":\"person\",\"recordDetails\":{\"names\":" ++ names ++ codes "}}]"
 
 -- the first of the names counts, one without a full name too
-person_names : map (λ names. details_read (reading (person_named names)))
+person_names : map (λ names. read_as (λ s. s.details) (reading (person_named names)))
     (codes "[{\"fullName\":\"Ann\"},{\"fullName\":\"Bo\"}]" ∷ codes "[{},{\"fullName\":\"Bo\"}]" ∷ codes "[{\"fullName\":7},{\"fullName\":\"Bo\"}]" ∷ codes "[null,{\"fullName\":\"Bo\"}]" ∷ codes "[]" ∷ codes "{\"fullName\":\"Ann\"}" ∷ [])
     ≡ map (λ name. Ok (Person persons.Other name ∷ [])) (Some (codes "Ann") ∷ None ∷ None ∷ None ∷ None ∷ None ∷ [])
 unfolding reader
 person_names = refl
 
 -- identifiers without both texts are passed over, and so is what is no object
-identifiers_kept : details_read (reading (identifiers_as (codes "7,null,{},[],{\"scheme\":\"GB-COH\",\"id\":\"00000001\"},{\"scheme\":\"GB-COH\"},{\"id\":\"2\"},{\"scheme\":\"\",\"id\":\"3\"},{\"scheme\":\"X\",\"id\":\"\"},{\"scheme\":7,\"id\":\"4\"},{\"scheme\":\"X\",\"id\":null},{\"id\":\"5\",\"scheme\":\"X\",\"uri\":null}")))
+identifiers_kept : read_as (λ s. s.details) (reading (identifiers_as (codes "7,null,{},[],{\"scheme\":\"GB-COH\",\"id\":\"00000001\"},{\"scheme\":\"GB-COH\"},{\"id\":\"2\"},{\"scheme\":\"\",\"id\":\"3\"},{\"scheme\":\"X\",\"id\":\"\"},{\"scheme\":7,\"id\":\"4\"},{\"scheme\":\"X\",\"id\":null},{\"id\":\"5\",\"scheme\":\"X\",\"uri\":null}")))
     ≡ Ok (Entity entities.Other None (identifier (codes "GB-COH") (codes "00000001") ∷ identifier (codes "X") (codes "5") ∷ []) ∷ [])
 unfolding reader
 identifiers_kept = refl
 
 -- days of an interest: a day, a month, a year; what is no readable text is passed over
-periods_read : details_read (reading (relationship_with (codes "\"subject\":\"e1\",\"interestedParty\":{},\"interests\":[{\"startDate\":\"2024-02-01\",\"endDate\":\"2024-02\"},{\"startDate\":\"2024\",\"endDate\":2024},{\"startDate\":\"2024-02-30\",\"endDate\":null}]")))
+periods_read : read_as (λ s. s.details) (reading (relationship_with (codes "\"subject\":\"e1\",\"interestedParty\":{},\"interests\":[{\"startDate\":\"2024-02-01\",\"endDate\":\"2024-02\"},{\"startDate\":\"2024\",\"endDate\":2024},{\"startDate\":\"2024-02-30\",\"endDate\":null}]")))
     ≡ Ok (Relationship (Some (codes "e1")) None (record { kind = interests.Other; directness = directness.Unknown; share = None; starts = start_of (codes "2024-02-01"); ends = end_of (codes "2024-02") }
     ∷ record { kind = interests.Other; directness = directness.Unknown; share = None; starts = start_of (codes "2024"); ends = None }
     ∷ record { kind = interests.Other; directness = directness.Unknown; share = None; starts = None; ends = None } ∷ []) ∷ [])
@@ -454,14 +406,14 @@ unfolding reader
 periods_read = refl
 
 -- an object at an end names no record; interests come in order, and shares of other types aren't read
-relationship_read : details_read (reading (relationship_with (codes "\"subject\":\"e1\",\"interestedParty\":{\"reason\":\"noBeneficialOwners\"},\"interests\":[{\"type\":\"seniorManagingOfficial\",\"share\":{\"exact\":25.5}},{\"type\":\"shareholding\",\"directOrIndirect\":\"direct\",\"share\":{\"exact\":5}},{\"type\":\"appointmentOfBoard\",\"directOrIndirect\":\"indirect\"}]")))
+relationship_read : read_as (λ s. s.details) (reading (relationship_with (codes "\"subject\":\"e1\",\"interestedParty\":{\"reason\":\"noBeneficialOwners\"},\"interests\":[{\"type\":\"seniorManagingOfficial\",\"share\":{\"exact\":25.5}},{\"type\":\"shareholding\",\"directOrIndirect\":\"direct\",\"share\":{\"exact\":5}},{\"type\":\"appointmentOfBoard\",\"directOrIndirect\":\"indirect\"}]")))
     ≡ Ok (Relationship (Some (codes "e1")) None (record { kind = interests.Other; directness = directness.Unknown; share = None; starts = None; ends = None }
     ∷ record { kind = interests.Shareholding; directness = directness.Direct; share = Some (range 5 false 5 false); starts = None; ends = None }
     ∷ record { kind = interests.AppointmentOfBoard; directness = directness.Indirect; share = None; starts = None; ends = None } ∷ []) ∷ [])
 unfolding reader
 relationship_read = refl
 
-no_records : details_read (reading (relationship_with (codes "\"subject\":{},\"interestedParty\":{},\"interests\":null")))
+no_records : read_as (λ s. s.details) (reading (relationship_with (codes "\"subject\":{},\"interestedParty\":{},\"interests\":null")))
     ≡ Ok (Relationship None None [] ∷ [])
 unfolding reader
 no_records = refl

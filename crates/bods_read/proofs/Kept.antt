@@ -1,16 +1,15 @@
--- The items of a list that stand for something, one after the other.
-use Rattle.std.proofs.Common.{◌≡◌, ℕ, ◌+◌, ◌<◌, List, [], ◌∷◌, ◌++◌, length, take, get_or, map, filter_map, Option, refl, sym, ap, ◌∙◌}
+-- Lists that are read item by item: what is left of one, and the items that stand for something.
+use Rattle.std.proofs.Common.{◌≡◌, ℕ, ◌+◌, ◌<◌, List, [], ◌++◌, length, take, get_or, map, filter_map, Option, Result, refl}
 use Rattle.std.specs.List.{cons_option}
 use Rattle.std.proofs.lemmas.List.{take_more, map-append}
 use Rattle.std.proofs.lemmas.List.Elements.{filter_map-append}
+use Rattle.bods_read.specs.Outcome.{outcome, lines_from}
 
-kept_more : {V D X : Type 0} (form : D → Option X) (view : V → D) (vs : List V) (i : ℕ) (v : V) → i < length vs → v ≡ get_or vs i v
-    → filter_map form (map view (take (i + 1) vs)) ≡ filter_map form (map view (take i vs)) ++ cons_option (form (view v)) []
-kept_more form view vs i v lt is =
-    ap (λ l. filter_map form (map view l)) (take_more vs i v lt ∙ ap (λ w. take i vs ++ w ∷ []) (sym is))
-    ∙ ap (filter_map form) (map-append view (take i vs) (v ∷ []))
-    ∙ filter_map-append form (map view (take i vs)) (map view (v ∷ []))
+-- the outcome of items, after what was read before
+abbrev pub rest : {V D F X : Type 0} → (V → D) → (ℕ → D → List F) → (D → X) → ℕ → List X → List V → Result (List X) F
+rest view lines item place front vs = outcome (lines_from lines place (map view vs)) (front ++ map item (map view vs))
 
+-- one item more
 pub kept_one : {V D X : Type 0} (form : D → Option X) (view : V → D) (vs : List V) (i : ℕ) (v : V) (kept : List X) (o : Option X) → i < length vs → v ≡ get_or vs i v → o ≡ form (view v)
     → kept ≡ filter_map form (map view (take i vs)) → kept ++ cons_option o [] ≡ filter_map form (map view (take (i + 1) vs))
-kept_one form view vs i v kept o lt is e so_far = sym (kept_more form view vs i v lt is ∙ rw (← e, ← so_far) refl)
+kept_one form view vs i v kept o lt is e so_far = rw (take_more vs i v lt, ← is, map-append, filter_map-append, ← so_far, ← e) refl

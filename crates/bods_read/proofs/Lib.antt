@@ -1,11 +1,9 @@
 pub mod Tables
 pub mod Items
-pub mod Loop
 pub mod Kept
 pub mod Bytes
 pub mod Bounds
 pub mod MembersRead
-pub mod InterestRead
 pub mod TextsRead
 pub mod FormsRead
 pub mod Examples

@@ -11,7 +11,7 @@ use Rattle.std.proofs.lemmas.Bool.{cond_both, and_parts}
 use Rattle.std.proofs.lemmas.Option.{cond_some}
 use Rattle.std.proofs.lemmas.Bool.Decides.{nat_tests}
 use Rattle.json.specs.Text.{code_unit, short_escape, is_high_surrogate, is_low_surrogate, surrogate_pair, Within, plain, after_backslash, after_u, after_high, prepend, content}
-use Rattle.json.specs.Word.{head, number_before, word, after_number, ends_word}
+use Rattle.json.specs.Word.{head, number_before, word, after_number}
 use Rattle.json.specs.Token as tokens
 use Rattle.json.specs.Token.{Token, bad, boolean}
 use Rattle.json.specs.Lex as lexer
@@ -105,12 +105,10 @@ IsText (tokens.string s) = IsUtf8 s
 IsText t = Unit {0}
 
 one_of : (b : Bool) (x y : Token) → IsText x → IsText y → IsText (cond b x y)
-one_of true x y p q = p
-one_of false x y p q = q
+one_of b x y p q = cond_both b x y IsText (λ _. p) (λ _. q)
 
 number_text : (t : List ℕ) (o : Option (List ℕ)) → IsText (number_before t o)
-number_text t None = tt
-number_text t (Some rest) = one_of (ends_word rest) _ bad tt tt
+number_text t o = grind arith
 
 word_text : (t : List ℕ) → IsText (word t)
 unfolding word
@@ -124,21 +122,13 @@ Lexemes (token t ∷ ls) = IsText t × Lexemes ls
 Lexemes (l ∷ ls) = Lexemes ls
 
 mark : (x : ℕ) (ls : List Lexeme) → Lexemes ls → Lexemes (operator_lexeme x ∷ ls)
-mark x ls h =
-    let P : Lexeme → Type 0 = λ l. Lexemes (l ∷ ls) in
-    cond_both (x == 123) _ _ P (λ e. (tt, h)) (λ e. cond_both (x == 125) _ _ P (λ e. (tt, h)) (λ e. cond_both (x == 91) _ _ P (λ e. (tt, h)) (λ e. cond_both (x == 93) _ _ P (λ e. (tt, h)) (λ e. cond_both (x == 44) comma colon P (λ e. h) (λ e. h)))))
+mark x ls h = grind arith
 
 quoted : (o : Option (List ℕ)) → IfSome o IsUtf8 → IsText (string_token o)
-quoted None h = tt
-quoted (Some s) h = h
-
-ruleset lexing = (mark, word_text)
+quoted o h = grind arith
 
 byte : (m : Mode) (c : Class) (x : ℕ) (xs : List ℕ) (k : Mode → List Lexeme) → (c ≡ quote → IfSome (content plain xs) IsUtf8) → ((n : Mode) → Lexemes (k n)) → Lexemes (lex_byte m c x xs k)
-byte between quote x xs k t h = (quoted _ (t refl), h in_string)
-byte in_word operator x xs k t h = mark x _ (h between)
-byte in_string quote x xs k t h = h between
-byte m c x xs k t h = search lexing
+byte m c x xs k t h = grind (arith, mark, word_text, quoted)
 
 quote_small : (x : ℕ) → class x ≡ quote → x < 128
 quote_small x e = grind (arith, nat_tests)
@@ -152,14 +142,10 @@ abbrev AreTexts : List Token → Type 0
 AreTexts ts = AllByRecursion IsText ts
 
 allowed : (b : Bool) (t : Token) (k : Place → List Token) (next : Place) → IsText t → AreTexts (k next) → AreTexts (if_allowed b t k next)
-allowed true t k next p q = (p, q)
-allowed false t k next p q = (tt, tt)
-
-ruleset placing = (allowed)
+allowed b t k next p q = grind arith
 
 placed : (p : Place) (t : Token) (b : Bool) (k : Place → List Token) → IsText t → ((n : Place) → AreTexts (k n)) → AreTexts (place_token p t b k)
-placed p (tokens.string s) true k q h = allowed (may_begin p) (tokens.key s) k after_key tt (h after_key)
-placed p t b k q h = search placing
+placed p t b k q h = grind (arith, allowed)
 
 punctuated : (ls : List Lexeme) → Lexemes ls → (p : Place) → AreTexts (punctuate p ls)
 unfolding punctuate

@@ -57,7 +57,7 @@ fn ends(interest: &Value) -> Option<Day>
     Day::read_end(text_at(interest, "endDate")?)
 }
 
-#[tactic(auto, using(crate::proofs::InterestRead::interest_rules), unfolding(crate::specs::Words::interest_worded))]
+#[tactic(auto, using(crate::proofs::MembersRead::interest_rules), unfolding(crate::specs::Words::interest_worded))]
 fn of_object(value: &Value) -> Result<Interest, Trouble>
     ensures { Gives (λ i. i) result
         (outcome (interest_object_lines (view value.now)) (interest_of (view value.now))) }

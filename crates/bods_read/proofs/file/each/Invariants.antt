@@ -3,7 +3,7 @@ use Rattle.serde_json.specs.View.{view}
 use Rattle.bods_read.specs.Outcome.{outcome, lines_from}
 use Rattle.bods_read.specs.Statement.{statement_of}
 use Rattle.bods_read.specs.File.{lines_at}
-use Rattle.bods_read.proofs.Loop.{rest}
+use Rattle.bods_read.proofs.Kept.{rest}
 use Rattle.bods_read.proofs.file.each.Given as goal
 
 abbrev pub invariant-loop-value : goal.invariant-loop-value

@@ -2,7 +2,7 @@ use Rattle.std.proofs.Common.{◌≡◌, ◌+◌, drop, map}
 use Rattle.serde_json.specs.View.{view}
 use Rattle.bods_read.specs.Outcome.{outcome}
 use Rattle.bods_read.specs.Interests.{interest_lines, interest_of, each_lines}
-use Rattle.bods_read.proofs.Loop.{rest}
+use Rattle.bods_read.proofs.Kept.{rest}
 use Rattle.bods_read.proofs.interests.each.Given as goal
 
 abbrev pub invariant-loop-value : goal.invariant-loop-value

@@ -1,6 +1,6 @@
 use Rattle.std.proofs.Common.{ap, ◌∙◌}
 use Rattle.bods_read.specs.Words.{interest_worded, directness_worded}
-use Rattle.bods_read.proofs.InterestRead.{interest_read}
+use Rattle.bods_read.proofs.MembersRead.{interest_read}
 use Rattle.bods_read.proofs.interests.of_object.Goals as goal
 
 pub returns : goal.returns
