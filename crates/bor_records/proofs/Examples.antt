@@ -76,29 +76,20 @@ due_before_record = refl
 
 -- ---- each beside the next that can hold with it: the first is answered
 
-type_before_exists : all_of opened (person (e1 (codes "s2") (Some New))) today ≡ TypeChanged ∷ RecordExists ∷ []
-type_before_exists = refl
+abbrev IsFirst : List Live → Statement → ℤ → RecordFault → List RecordFault → Type 0
+IsFirst live s due first others = (all_of live s due ≡ first ∷ others) × (admitted live s due ≡ Err first)
 
-type_before_exists-told : admitted opened (person (e1 (codes "s2") (Some New))) today ≡ Err TypeChanged
-type_before_exists-told = refl
+type_before_exists : IsFirst opened (person (e1 (codes "s2") (Some New))) today TypeChanged (RecordExists ∷ [])
+type_before_exists = (refl, refl)
 
-exists_before_closed : all_of shut (e1 (codes "s3") (Some New)) today ≡ RecordExists ∷ RecordClosed ∷ []
-exists_before_closed = refl
+exists_before_closed : IsFirst shut (e1 (codes "s3") (Some New)) today RecordExists (RecordClosed ∷ [])
+exists_before_closed = (refl, refl)
 
-exists_before_closed-told : admitted shut (e1 (codes "s3") (Some New)) today ≡ Err RecordExists
-exists_before_closed-told = refl
+closed_before_date : IsFirst shut (before (e1 (codes "s3") None)) today RecordClosed (DateBack ∷ [])
+closed_before_date = (refl, refl)
 
-closed_before_date : all_of shut (before (e1 (codes "s3") None)) today ≡ RecordClosed ∷ DateBack ∷ []
-closed_before_date = refl
-
-closed_before_date-told : admitted shut (before (e1 (codes "s3") None)) today ≡ Err RecordClosed
-closed_before_date-told = refl
-
-date_before_due : all_of opened (before (e1 (codes "s2") None)) (pos 19753) ≡ DateBack ∷ DueBeforeRecord ∷ []
-date_before_due = refl
-
-date_before_due-told : admitted opened (before (e1 (codes "s2") None)) (pos 19753) ≡ Err DateBack
-date_before_due-told = refl
+date_before_due : IsFirst opened (before (e1 (codes "s2") None)) (pos 19753) DateBack (DueBeforeRecord ∷ [])
+date_before_due = (refl, refl)
 
 -- RecordUnknown holds beside no other
 unknown_alone : all_of [] (person (before (e1 (codes "s1") (Some Closed)))) (pos 0) ≡ RecordUnknown ∷ []

@@ -1,21 +1,16 @@
 -- Lemmas on lists that std lacks.
-use Rattle.std.proofs.Common.{◌≡◌, Bool, true, false, cond, List, [], ◌∷◌, ◌++◌, Option, Some, None, Contains, refl}
-use Rattle.std.specs.Prelude.{◌||◌}
+use Rattle.std.proofs.Common.{◌≡◌, Bool, false, List, [], ◌∷◌, ◌++◌, Option, Some, None, Contains, refl}
 use Rattle.std.specs.Option.{option_or}
 use Rattle.std.specs.List.{filter, list_any, last_or, AllByRecursion}
-use Rattle.std.proofs.lemmas.List.Elements.{Contains-append_left, Contains-append_right, Contains-push}
+use Rattle.std.proofs.lemmas.Bool.{or_parts}
+use Rattle.std.proofs.lemmas.List.Elements.{All-from_recursion, All-weaker, recursion_from_All, Contains-append_left, Contains-append_right, Contains-push}
 
 pub all_map : {X : Type 0} (P Q : X → Type 0) (xs : List X) → ((x : X) → P x → Q x) → AllByRecursion P xs → AllByRecursion Q xs
-all_map P Q [] f h = tt
-all_map P Q (x ∷ xs) f h = (f x h.0, all_map P Q xs f h.1)
+all_map P Q xs f h = recursion_from_All Q xs (All-weaker P Q f xs (All-from_recursion P xs h))
 
 pub none_pass : {X : Type 0} (p : X → Bool) (xs : List X) → list_any p xs ≡ false → filter p xs ≡ []
 none_pass p [] h = refl
-none_pass p (x ∷ xs) h = at (p x) (none_pass p xs) h
-  where
-    at : (b : Bool) → (list_any p xs ≡ false → filter p xs ≡ []) → (b || list_any p xs) ≡ false → cond b (x ∷ filter p xs) (filter p xs) ≡ []
-    at true f h = absurd cc
-    at false f h = f h
+none_pass p (x ∷ xs) h = let parts = or_parts (p x) (list_any p xs) h in rw parts.0 (none_pass p xs parts.1)
 
 -- the last of two lists, one after the other, is that of the second, where it has any
 pub last_or-append : {X : Type 0} (o : Option X) (xs ys : List X) → last_or o (xs ++ ys) ≡ option_or (last_or None ys) (last_or o xs)

@@ -1,9 +1,8 @@
-pub mod Wholes
 pub mod SameNode
 pub mod Found
 pub mod Once
 pub mod Series
-pub mod EveryStake
+pub mod Stakes
 pub mod ByKey
 pub mod OfRows
 pub mod Examples
@@ -15,11 +14,8 @@ pub mod Growth
 pub mod Given
 pub mod InOrder
 pub mod Listed
-pub mod Reached
 pub mod SignsOfRows
 pub mod Signed
 pub mod ByRecord
 pub mod Linking
-pub mod Aliasing
-pub mod Identifying
 pub mod Stated

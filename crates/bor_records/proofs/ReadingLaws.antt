@@ -1,24 +1,18 @@
 -- One read after another, and what is made of what was read.
-use Rattle.std.proofs.Common.{◌≡◌, sym, subst, Result, Ok, Err, IfOk, MatchResult}
+use Rattle.std.proofs.Common.{◌≡◌, sym, subst, Result, Ok, Err, IfOk, MatchResult, arith}
 use Rattle.std.specs.Prelude.{IsErrAnd}
+use Rattle.std.proofs.lemmas.Result.{MatchResult-weaker, on_ok_weaker}
 use Rattle.bor_records.specs.Reading.{ReadsSo, ReadsAsOne, Reading}
 
 -- an error says nothing of it
 not_answered : {X Y : Type 0} (P : Type 0) (Q : Y → Type 0) (result : Result X Y) → IsErrAnd result Q → IfOk result (λ x. P)
-not_answered P Q (Ok x) told = absurd told
-not_answered P Q (Err e) told = tt
+not_answered P Q result told = grind arith
 
 answered : {X F : Type 0} (tell : F → Type 0) (result : Result X F) (P Q : X → Type 0) → ((x : X) → P x → Q x) → MatchResult result P tell → MatchResult result Q tell
-answered tell (Ok x) P Q so h = so x h
-answered tell (Err e) P Q so h = h
+answered tell result P Q so h = MatchResult-weaker result {P = P} {P' = Q} {Q = tell} {Q' = tell} h so (λ e told. told)
 
 failed : {X F : Type 0} (tell Told : F → Type 0) (result : Result X F) (Q : X → Type 0) → IsErrAnd result Told → ((e : F) → Told e → tell e) → MatchResult result Q tell
-failed tell Told (Ok x) Q told so = absurd told
-failed tell Told (Err e) Q told so = so e told
-
-after : {X F : Type 0} {A B : Type 0} (result : Result X F) → (A → B) → IfOk result (λ x. A) → IfOk result (λ x. B)
-after (Ok x) so a = so a
-after (Err e) so a = tt
+failed tell Told result Q told so = grind arith
 
 module _ {S V F : Type 0} {r : Reading S V F} where
   -- without a read
@@ -37,7 +31,7 @@ module _ {S V F : Type 0} {r : Reading S V F} where
   pub read_next : {X Y : Type 0} {old mid new : S} {x : X} {result : Result Y F} {P : V → X → Type 0} {Q : V → Y → Type 0} → ReadsAsOne r → ReadsSo r old mid (Ok x) P → ReadsSo r mid new result Q → ReadsSo r old new result (λ v y. P v x × Q v y)
   read_next {X} {Y} {old} {mid} {new} {x} {result} {P} {Q} on first second = record {
     leads = on.more old mid new first.leads second.leads;
-    lasts = after result (on.lasts_more old mid new second.leads first.lasts) second.lasts;
+    lasts = on_ok_weaker result (on.lasts_more old mid new second.leads first.lasts) second.lasts;
     answer = λ clean v shown.
         let began = on.began mid new second.leads clean in
         let was = first.answer began v shown in
@@ -50,12 +44,4 @@ module _ {S V F : Type 0} {r : Reading S V F} where
     leads = was.leads;
     lasts = not_answered _ _ result told;
     answer = λ clean v shown. failed r.may_tell (λ e. e ≡ error) result (Q v) told (λ e same. subst r.may_tell (sym same) (was.answer clean v shown));
-  }
-
-  -- memory is wanting
-  pub read_wants : {X Y : Type 0} {P : V → X → Type 0} {Q : V → Y → Type 0} {old new : S} {x : X} {result : Result Y F} (Told : F → Type 0) → ((e : F) → Told e → r.may_tell e) → IsErrAnd result Told → ReadsSo r old new (Ok x) P → ReadsSo r old new result Q
-  read_wants {X} {Y} {P} {Q} {old} {new} {x} {result} Told tells told was = record {
-    leads = was.leads;
-    lasts = not_answered _ _ result told;
-    answer = λ clean v shown. failed r.may_tell Told result (Q v) told tells;
   }

@@ -1,5 +1,5 @@
 -- A file's statements one by one: the laws that a loop over them needs.
-use Rattle.std.proofs.Common.{◌≡◌, ℕ, ℤ, Bool, true, false, List, [], ◌∷◌, ◌++◌, map, Option, Some, None, option_map, Result, Ok, Err, refl, ap, ◌∙◌, if◌then◌else◌}
+use Rattle.std.proofs.Common.{◌≡◌, ℕ, ℤ, Bool, List, ◌++◌, Option, None, option_map, Result, Ok, Err, ap, ◌∙◌, if◌then◌else◌, arith}
 use Rattle.std.specs.List.{filter, last_or}
 use Rattle.std.specs.Prelude.{◌||◌}
 use Rattle.std.specs.Option.{option_or}
@@ -8,8 +8,8 @@ use Rattle.std.proofs.lemmas.List.Folds.{list_any-append}
 use Rattle.bods_read.specs.declared.statement.Statement.{Statement}
 use Rattle.bods_read.specs.declared.statement.Status.{Status}
 use Rattle.bor_records.specs.declared.fault.RecordFault.{RecordFault}
-use Rattle.bor_records.specs.Admission.{Live, is_of, known_of, last_of, admitted, refusals, settled_status, unless_refused}
-use Rattle.bor_records.specs.Settling.{Refusal, statement_twice, by_record, PlacedRefusal, has_id, verdict}
+use Rattle.bor_records.specs.Admission.{Live, is_of, known_of, last_of, admitted}
+use Rattle.bor_records.specs.Settling.{Refusal, statement_twice, by_record, has_id, verdict}
 use Rattle.bor_records.proofs.Lists.{last_or-append}
 
 -- ---- one live statement more
@@ -25,8 +25,7 @@ last_of-append declaration rec earlier later =
     of l = is_of declaration rec l.statement
 
     mapped : (o p : Option Live) → option_map known_of (option_or o p) ≡ option_or (option_map known_of o) (option_map known_of p)
-    mapped None p = refl
-    mapped (Some l) p = refl
+    mapped o p = grind arith
 
 pub has_id-append : (id : List ℕ) (earlier later : List Live) → has_id id (earlier ++ later) ≡ (has_id id earlier || has_id id later)
 has_id-append id earlier later = list_any-append _ earlier later
@@ -39,19 +38,4 @@ of_rules (Ok status) = Ok status
 of_rules (Err fault) = Err (by_record fault)
 
 pub verdict_is : (live : List Live) (s : Statement) (due : ℤ) → verdict live s due ≡ if has_id s.id live then Err statement_twice else of_rules (admitted live s due)
-verdict_is live s due = at (has_id s.id live) (refusals (last_of s.declaration s.rec live) s due)
-  where
-    status : Status
-    status = settled_status (last_of s.declaration s.rec live) s.status
-
-    at : (b : Bool) (faults : List RecordFault) → unless_refused ((if b then statement_twice ∷ [] else []) ++ map by_record faults) status ≡ if b then Err statement_twice else of_rules (unless_refused faults status)
-    at true faults = refl
-    at false [] = refl
-    at false (fault ∷ faults) = refl
-
--- ---- a loop over a file
-
--- the outcome behind what was settled
-abbrev pub behind : List Statement → Result (List Statement) PlacedRefusal → Result (List Statement) PlacedRefusal
-behind done (Ok statements) = Ok (done ++ statements)
-behind done (Err refusal) = Err refusal
+verdict_is live s due = grind arith

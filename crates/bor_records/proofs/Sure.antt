@@ -1,6 +1,6 @@
 -- A change that fits each value that a clean state shows is one of which nothing else has to be known, and the other way round.
-use Rattle.std.proofs.Common.{Result, Ok, Err, IfOk, inl, inr}
-use Rattle.std.specs.Prelude.{◌⊎◌, IfErr}
+use Rattle.std.proofs.Common.{Result, IfOk, inl, inr, arith}
+use Rattle.std.specs.Prelude.{IfErr}
 use Rattle.bor_records.specs.Promises.{Changes, ChangesWhere, Meaning, Sure, left_by}
 
 module _ {S V W T F : Type 0} (meaning : Meaning S V W F) where
@@ -10,7 +10,7 @@ module _ {S V W T F : Type 0} (meaning : Meaning S V W F) where
     leaves = record {
       began = where_fits.leaves.began;
       sound = where_fits.leaves.sound;
-      stops = λ sound left may. stopped left (where_fits.leaves.stops sound left may);
+      stops = λ sound left may. elim (where_fits.leaves.stops sound left may) [ inl was ↦ inl was | inr made ↦ inr (made.0, λ v shown. made.1 v shown (sure v shown made.0)) ];
     };
     lasts = where_fits.lasts;
     counts = where_fits.counts;
@@ -18,13 +18,8 @@ module _ {S V W T F : Type 0} (meaning : Meaning S V W F) where
     changed = λ v shown clean. either result v (where_fits.failed v shown clean) (where_fits.made v shown clean (sure v shown (where_fits.leaves.began clean)));
   }
     where
-      stopped : (left : W) → meaning.may_leave old left ⊎ (meaning.is_clean old × ((v : V) → meaning.shows old v → Fits v → meaning.left_shows left (change v))) → meaning.may_leave old left ⊎ (meaning.is_clean old × ((v : V) → meaning.shows old v → meaning.left_shows left (change v)))
-      stopped left (inl was) = inl was
-      stopped left (inr made) = inr (made.0, λ v shown. made.1 v shown (sure v shown made.0))
-
       either : (answer : Result T F) (v : V) → IfErr answer (λ e. meaning.shows new v) → IfOk answer (λ x. meaning.shows new (change v)) → meaning.shows new (left_by answer (change v) v)
-      either (Ok x) v failed made = made
-      either (Err e) v failed made = failed
+      either answer v failed made = grind arith
 
   -- a change of which nothing has to be known fits each value
   pub changes_always : {old new : S} {result : Result T F} {change : V → V} → Changes meaning old new result change
@@ -33,7 +28,7 @@ module _ {S V W T F : Type 0} (meaning : Meaning S V W F) where
     leaves = record {
       began = changes.leaves.began;
       sound = changes.leaves.sound;
-      stops = λ sound left may. stopped left (changes.leaves.stops sound left may);
+      stops = λ sound left may. elim (changes.leaves.stops sound left may) [ inl was ↦ inl was | inr made ↦ inr (made.0, λ v shown fits. made.1 v shown) ];
     };
     lasts = changes.lasts;
     counts = changes.counts;
@@ -42,14 +37,8 @@ module _ {S V W T F : Type 0} (meaning : Meaning S V W F) where
     made = λ v shown clean fits. where_ok result v (changes.changed v shown clean);
   }
     where
-      stopped : (left : W) → meaning.may_leave old left ⊎ (meaning.is_clean old × ((v : V) → meaning.shows old v → meaning.left_shows left (change v))) → meaning.may_leave old left ⊎ (meaning.is_clean old × ((v : V) → meaning.shows old v → Unit {0} → meaning.left_shows left (change v)))
-      stopped left (inl was) = inl was
-      stopped left (inr made) = inr (made.0, λ v shown fits. made.1 v shown)
-
       where_err : (answer : Result T F) (v : V) → meaning.shows new (left_by answer (change v) v) → IfErr answer (λ e. meaning.shows new v)
-      where_err (Ok x) v h = tt
-      where_err (Err e) v h = h
+      where_err answer v h = grind arith
 
       where_ok : (answer : Result T F) (v : V) → meaning.shows new (left_by answer (change v) v) → IfOk answer (λ x. meaning.shows new (change v))
-      where_ok (Ok x) v h = h
-      where_ok (Err e) v h = tt
+      where_ok answer v h = grind arith

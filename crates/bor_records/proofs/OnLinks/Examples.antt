@@ -22,7 +22,7 @@ use Rattle.bor_records.specs.declared.links.node.OpenNode.{OpenNode}
 use Rattle.bor_records.specs.declared.links.node.Link.{Link}
 use Rattle.bor_records.specs.Links.Stakes.{is_stake, is_holding}
 use Rattle.bor_records.specs.OpenRows.{open_rows}
-use Rattle.bor_records.specs.Links.Shown.{Shown, are_alike}
+use Rattle.bor_records.specs.Links.Shown.{Shown, are_alike, listed_at}
 use Rattle.bor_records.specs.Links.Aliases.{Alias, Same}
 use Rattle.bor_records.specs.Links.Answers.{AreLinksInto}
 use Rattle.bor_records.specs.Links.Rows.{is_legal_kind, shown_of}
@@ -269,46 +269,28 @@ by_identifier = refl
 no_person : are_alike (entity (of_c1 (codes "p1")) []) (record { node = node (codes "c2") (codes "p1"); info = Person (record { name = None }); identifiers = [] }) ≡ false
 no_person = refl
 
+aliased : (s : Shown) (one two : OpenNode) → listed_at s.nodes one.node ≡ Some one → listed_at s.nodes two.node ≡ Some two → are_alike one two ≡ true → Alias s one.node two.node
+aliased s one two one_is two_is alike = record { one = one; two = two; one_is = one_is; two_is = two_is; alike = alike }
+
 -- the rows of one record in two declarations show two nodes that stand for one entity
 in_two_declarations : Alias (shown_of (pos 10) (opened_row ∷ in_c2 opened_row ∷ [])) (of_c1 (codes "e1")) (node (codes "c2") (codes "e1"))
-in_two_declarations = record {
-  one = entity (of_c1 (codes "e1")) [];
-  two = entity (node (codes "c2") (codes "e1")) [];
-  one_is = refl;
-  two_is = refl;
-  alike = refl;
-}
+in_two_declarations = aliased (shown_of (pos 10) (opened_row ∷ in_c2 opened_row ∷ [])) (entity (of_c1 (codes "e1")) []) (entity (node (codes "c2") (codes "e1")) []) refl refl refl
 
 -- e1 shares an identifier with e2, and e2 another one with e3: two steps, where one is none
+abbrev e1 : OpenNode
+e1 = entity (of_c1 (codes "e1")) (registered ∷ [])
+
+abbrev e2 : OpenNode
+e2 = entity (of_c1 (codes "e2")) (registered ∷ numbered (codes "X") (codes "1") ∷ [])
+
+abbrev e3 : OpenNode
+e3 = entity (of_c1 (codes "e3")) (numbered (codes "X") (codes "1") ∷ [])
+
 abbrev two_steps : Shown
-two_steps = record {
-  nodes = entity (of_c1 (codes "e1")) (registered ∷ [])
-      ∷ entity (of_c1 (codes "e2")) (registered ∷ numbered (codes "X") (codes "1") ∷ [])
-      ∷ entity (of_c1 (codes "e3")) (numbered (codes "X") (codes "1") ∷ [])
-      ∷ [];
-  links = [];
-}
+two_steps = record { nodes = e1 ∷ e2 ∷ e3 ∷ []; links = [] }
 
 over_two_steps : Same two_steps (of_c1 (codes "e1")) (of_c1 (codes "e3"))
-over_two_steps = (of_c1 (codes "e2") ∷ of_c1 (codes "e3") ∷ [], (first, (second, refl)))
-  where
-    first : Alias two_steps (of_c1 (codes "e1")) (of_c1 (codes "e2"))
-    first = record {
-      one = entity (of_c1 (codes "e1")) (registered ∷ []);
-      two = entity (of_c1 (codes "e2")) (registered ∷ numbered (codes "X") (codes "1") ∷ []);
-      one_is = refl;
-      two_is = refl;
-      alike = refl;
-    }
+over_two_steps = (of_c1 (codes "e2") ∷ of_c1 (codes "e3") ∷ [], (aliased two_steps e1 e2 refl refl refl, (aliased two_steps e2 e3 refl refl refl, refl)))
 
-    second : Alias two_steps (of_c1 (codes "e2")) (of_c1 (codes "e3"))
-    second = record {
-      one = entity (of_c1 (codes "e2")) (registered ∷ numbered (codes "X") (codes "1") ∷ []);
-      two = entity (of_c1 (codes "e3")) (numbered (codes "X") (codes "1") ∷ []);
-      one_is = refl;
-      two_is = refl;
-      alike = refl;
-    }
-
-no_single_step : are_alike (entity (of_c1 (codes "e1")) (registered ∷ [])) (entity (of_c1 (codes "e3")) (numbered (codes "X") (codes "1") ∷ [])) ≡ false
+no_single_step : are_alike e1 e3 ≡ false
 no_single_step = refl

@@ -1,14 +1,14 @@
 -- A set beside a list, with the same elements.
-use Rattle.std.proofs.Common.{◌≡◌, ◌↔◌, ◌++◌, ◌-◌, Some, ap, sym, refl, ◌∙◌, ℕ, Bool, true, false, cond, IsTrue, List, [], ◌∷◌, Contains, subst, inl, inr, arith, take, length, length-append}
+use Rattle.std.proofs.Common.{◌≡◌, ◌↔◌, ◌++◌, ◌-◌, Some, ap, sym, refl, ◌∙◌, ℕ, true, false, cond, IsTrue, List, [], ◌∷◌, Contains, subst, inl, inr, arith, take, length, length-append}
 use Rattle.std.specs.declared.cmp.Ordering.{Ordering}
-use Rattle.std.specs.declared.cmp.Ordering.TheVariants.{Less, Equal, Greater}
 use Rattle.std.specs.Ordering.{is_eq}
 use Rattle.std.specs.Cmp.{IsTotalOrder}
 use Rattle.std.specs.Prelude.{Result, Ok, Err, OnOk, OnErr, drop, slice_get}
 use Rattle.std.specs.Result.{is_err}
 use Rattle.std.specs.BTreeSet.{BTreeSet, contains}
 use Rattle.std.proofs.lemmas.Map.Lookups.{CmpEqualImpliesEq}
-use Rattle.std.proofs.lemmas.Map.Views.{btree_set_contains_iff}
+use Rattle.std.proofs.lemmas.Bool.{cond_both}
+use Rattle.std.proofs.lemmas.Map.Views.{btree_set_contains_iff, tells_apart}
 use Rattle.std.proofs.lemmas.Option.{same_Some}
 use Rattle.std.proofs.lemmas.List.{take_all, take-append-le}
 use Rattle.std.proofs.lemmas.List.Elements.{Contains-append_left, Contains-push, Contains-push_cases}
@@ -37,23 +37,15 @@ pub given_more : {X : Type 0} (cmp : X → X → Ordering) → IsTotalOrder cmp 
     → AreGiven (order ++ x ∷ []) n.keys
 given_more {X} cmp total exact order s n x g updates added m = (
   (λ h. elim (Contains-push_cases order x m h) [
-    | inl old ↦ (btree_set_contains_iff total exact n m).0 (updates m ∙ kept (is_eq (cmp x m)) (contains cmp s m) ((given_has cmp total exact order s m g).1 old))
+    | inl old ↦
+        let was = (given_has cmp total exact order s m g).1 old in
+        (btree_set_contains_iff total exact n m).0 (updates m ∙ cond_both (is_eq (cmp x m)) true (contains cmp s m) (λ t. t ≡ true) (λ is. refl) (λ other. was))
     | inr e ↦ subst (λ (y : X). Contains n.keys y) e ((btree_set_contains_iff total exact n x).0 added)
   ]),
-  (λ h. from (cmp x m) refl (sym (updates m) ∙ (btree_set_contains_iff total exact n m).1 h)),
+  (λ h. cond_both (is_eq (cmp x m)) true (contains cmp s m) (λ t. t ≡ true → Contains (order ++ x ∷ []) m)
+      (λ is t. subst (λ (y : X). Contains (order ++ x ∷ []) y) (tells_apart exact x m is) (Contains-push order x))
+      (λ other t. Contains-append_left order (x ∷ []) m ((given_has cmp total exact order s m g).0 t)) (sym (updates m) ∙ (btree_set_contains_iff total exact n m).1 h)),
 )
-  where
-    kept : (b c : Bool) → c ≡ true → cond b true c ≡ true
-    kept true c e = refl
-    kept false c e = e
-
-    old_one : contains cmp s m ≡ true → Contains (order ++ x ∷ []) m
-    old_one t = Contains-append_left order (x ∷ []) m ((given_has cmp total exact order s m g).0 t)
-
-    from : (o : Ordering) → cmp x m ≡ o → cond (is_eq o) true (contains cmp s m) ≡ true → Contains (order ++ x ∷ []) m
-    from Less e t = old_one t
-    from Greater e t = old_one t
-    from Equal e t = subst (λ (y : X). Contains (order ++ x ∷ []) y) (exact x m e) (Contains-push order x)
 
 -- those behind the first, where there is one more
 pub rest_begun : {X : Type 0} (order others : List X) (x : X) → length order ≡ 0 → AreGiven (drop 1 order) others → AreGiven (drop 1 (order ++ x ∷ [])) others
@@ -87,6 +79,3 @@ on_ok (Err x) P h p = absurd (cc)
 pub on_err : {T E : Type 0} (r : Result T E) (P : Type 0) → is_err r ≡ true → OnErr r P → P
 on_err (Ok x) P h p = absurd (cc)
 on_err (Err x) P h p = p
-
-pub no_truth : false ≡ true → ⊥
-no_truth h = absurd cc

@@ -1,9 +1,10 @@
 -- How a list grows at its end.
-use Rattle.std.proofs.Common.{◌≡◌, ◌⊎◌, ◌+◌, ◌<◌, ◌++◌, ℕ, List, [], ◌∷◌, Contains, take, length, get_or, sym, refl, ap, ◌∙◌, subst, inl, inr, arith, append_assoc}
+use Rattle.std.proofs.Common.{◌≡◌, ◌⊎◌, ◌+◌, ◌<◌, ◌++◌, ℕ, List, [], ◌∷◌, Contains, take, length, get_or, sym, refl, ap, ◌∙◌, subst, inl, inr, append_assoc}
 use Rattle.std.proofs.lemmas.List.{append-nil}
 use Rattle.std.proofs.lemmas.List.Elements.{Contains-append_left, Contains-append_cases, Contains-push, Contains-push_cases}
 use Rattle.std.proofs.lemmas.List.{take_more}
 use Rattle.bor_records.specs.Links.Growth.{Grown}
+use Rattle.bor_records.proofs.OnLinks.Found.{none}
 
 -- what a grown list keeps
 pub kept : {X : Type 0} {P : X → Type 0} {old new : List X} → Grown P old new → (n : X) → Contains old n → Contains new n
@@ -16,14 +17,11 @@ grown_cases {X} {P} {old} {new} g n h = elim (Contains-append_cases old g.rest n
   | inr b ↦ inr (g.only n b)
 ]
 
-no_element : {X : Type 0} (x : X) → Contains [] x → ⊥
-no_element x h = omega (arith, h.1)
-
 pub grown_none : {X : Type 0} (P : X → Type 0) (xs : List X) → ((n : X) → P n → Contains xs n) → Grown P xs xs
 grown_none P xs there = record {
   rest = [];
   begins = sym (append-nil xs);
-  only = λ n h. absurd (no_element n h);
+  only = λ n h. absurd (none n h);
   every = there;
 }
 
@@ -36,7 +34,7 @@ pub grown_push : {X : Type 0} (xs : List X) (x : X) → Grown (λ n. n ≡ x) xs
 grown_push {X} xs x = record {
   rest = x ∷ [];
   begins = refl;
-  only = λ n h. elim (Contains-push_cases [] x n h) [ inl a ↦ absurd (no_element n a) | inr e ↦ sym e ];
+  only = λ n h. elim (Contains-push_cases [] x n h) [ inl a ↦ absurd (none n a) | inr e ↦ sym e ];
   every = λ n e. subst (λ (y : X). Contains (xs ++ x ∷ []) y) (sym e) (Contains-push xs x);
 }
 

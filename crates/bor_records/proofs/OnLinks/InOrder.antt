@@ -1,8 +1,10 @@
 -- Nodes in order, each once, and all but one.
-use Rattle.std.proofs.Common.{◌≡◌, ◌≢◌, ◌↔◌, ◌++◌, ◌∷◌, not, Bool, true, false, cond, drop, List, [], Contains, refl, sym, ap, ◌∙◌, subst}
-use Rattle.std.specs.List.{dedup, filter, list_any, AllByRecursion, IsDistinct}
+use Rattle.std.proofs.Common.{◌≡◌, ◌≢◌, ◌↔◌, ◌++◌, ◌∷◌, not, Bool, false, drop, List, [], Contains, sym, ap, ◌∙◌, subst}
+use Rattle.std.specs.List.{dedup, filter, list_any, IsDistinct}
 use Rattle.std.specs.List.Retain.{IsFiltered, DiffersFromLast}
 use Rattle.std.specs.List.Sorted.{IsSorted, IsPermutation}
+use Rattle.std.proofs.lemmas.Bool.{both_ways, cond_both, false_from_ne_true, not-true, not_from_false}
+use Rattle.std.proofs.lemmas.List.Elements.{All-filter, All-from_recursion, recursion_from_All}
 use Rattle.std.proofs.lemmas.List.Filters.{dedup_is}
 use Rattle.std.proofs.lemmas.List.Kept.{IsStrictlySortedBy-dedup, Any-dedup, Contains-from_dedup}
 use Rattle.std.proofs.lemmas.List.Sorted.{Contains-permutation, IsPermutation-sym}
@@ -31,11 +33,7 @@ once_distinct ys zs s f =
 
 -- a node that isn't there
 absent : (nodes : List Node) (n : Node) → (Contains nodes n → ⊥) → list_any (same_node n) nodes ≡ false
-absent nodes n gone = at (list_any (same_node n) nodes) refl
-  where
-    at : (b : Bool) → list_any (same_node n) nodes ≡ b → list_any (same_node n) nodes ≡ false
-    at false e = e
-    at true e = let m = same_any (same_node n) nodes e in absurd (gone (subst (λ (x : Node). Contains nodes x) (sym (same_node_is n m.0 m.2)) m.1))
+absent nodes n gone = false_from_ne_true (list_any (same_node n) nodes) (λ e. let m = same_any (same_node n) nodes e in gone (subst (λ (x : Node). Contains nodes x) (sym (same_node_is n m.0 m.2)) m.1))
 
 -- a node more
 pub distinct_more : (nodes : List Node) (n : Node) → IsDistinct same_node nodes → (Contains nodes n → ⊥) → IsDistinct same_node (nodes ++ n ∷ [])
@@ -48,35 +46,22 @@ none_once order given e f = rw (e, f) ((λ n. ((λ h. h), (λ h. h))), tt)
 
 -- ---- all but one
 
-none_equal : (x : Node) (p : Node → Bool) (nodes : List Node) → AllByRecursion (λ n. same_node x n ≡ false) nodes → AllByRecursion (λ n. same_node x n ≡ false) (filter p nodes)
-none_equal x p [] h = tt
-none_equal x p (n ∷ nodes) h = at (none_equal x p nodes h.1) (p n)
-  where
-    at : AllByRecursion (λ m. same_node x m ≡ false) (filter p nodes) → (b : Bool) → AllByRecursion (λ m. same_node x m ≡ false) (cond b (n ∷ filter p nodes) (filter p nodes))
-    at rest true = (h.0, rest)
-    at rest false = rest
-
 filter_distinct : (p : Node → Bool) (nodes : List Node) → IsDistinct same_node nodes → IsDistinct same_node (filter p nodes)
 unfolding IsDistinct
 filter_distinct p [] d = tt
-filter_distinct p (n ∷ nodes) d = at (filter_distinct p nodes d.1) (p n)
-  where
-    at : IsDistinct same_node (filter p nodes) → (b : Bool) → IsDistinct same_node (cond b (n ∷ filter p nodes) (filter p nodes))
-    at rest true = (none_equal n p nodes d.0, rest)
-    at rest false = rest
+filter_distinct p (n ∷ nodes) d =
+    let differs = λ (m : Node). same_node n m ≡ false in
+    let rest = filter_distinct p nodes d.1 in
+    cond_both (p n) (n ∷ filter p nodes) (filter p nodes) (IsDistinct same_node) (λ kept. (recursion_from_All differs _ (All-filter p differs nodes (All-from_recursion differs nodes d.0)), rest)) (λ left. rest)
 
 module _ (nodes others : List Node) (node : Node) (is : others ≡ filter (λ n. not (same_node n node)) nodes) where
   pub others_are : (n : Node) → Contains others n ↔ Contains nodes n × (n ≢ node)
   others_are n = subst (λ (ns : List Node). Contains ns n ↔ Contains nodes n × (n ≢ node)) (sym is) (
     (λ h.
         let m = Contains-from_filter (λ n. not (same_node n node)) nodes n h in
-        (m.0, λ e. let no : true ≡ false = sym m.1 ∙ ap (λ (b : Bool). not b) (ap (λ (x : Node). same_node x node) e ∙ node_equiv.refl node) in cc)),
-    (λ h. Contains-filter (λ n. not (same_node n node)) nodes n h.0 (by n h.1 (same_node n node) refl)),
+        (m.0, λ e. both_ways (same_node n node) (not-true (same_node n node) m.1) (ap (λ (x : Node). same_node x node) e ∙ node_equiv.refl node))),
+    (λ h. Contains-filter (λ n. not (same_node n node)) nodes n h.0 (not_from_false (same_node n node) (false_from_ne_true (same_node n node) (λ e. h.1 (same_node_is n node e))))),
   )
-    where
-      by : (n : Node) → (n ≢ node) → (b : Bool) → same_node n node ≡ b → not (same_node n node) ≡ true
-      by n apart true e = absurd (apart (same_node_is n node e))
-      by n apart false e = ap (λ (b : Bool). not b) e
 
   pub others_distinct : IsDistinct same_node nodes → IsDistinct same_node others
   others_distinct d = subst (λ (ns : List Node). IsDistinct same_node ns) (sym is) (filter_distinct (λ n. not (same_node n node)) nodes d)

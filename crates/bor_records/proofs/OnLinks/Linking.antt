@@ -1,5 +1,5 @@
 -- What is made of the elements of a list, one after the other.
-use Rattle.std.proofs.Common.{◌≡◌, ◌<◌, ◌≤◌, ◌+◌, ◌++◌, ℕ, List, [], ◌∷◌, Option, Some, None, length, drop, get_or, append-nil, append_assoc, sym, ap, ◌∙◌}
+use Rattle.std.proofs.Common.{◌≡◌, ◌<◌, ◌≤◌, ◌+◌, ◌++◌, ℕ, List, [], Option, length, drop, get_or, append-nil, append_assoc, sym, ap, ◌∙◌, arith}
 use Rattle.std.specs.List.{cons_option, filter_map}
 use Rattle.std.proofs.lemmas.List.{at_drop_all, at_drop_more}
 
@@ -11,8 +11,7 @@ one_more {X} {Y} f xs i x o old new all lt at is added was =
     ap (λ l. l ++ rest) added ∙ joined rest o ∙ ap (λ p. old ++ cons_option p rest) (is ∙ ap f at) ∙ ap (λ l. old ++ l) (sym (at_drop_more (filter_map f) xs i x lt)) ∙ was
   where
     joined : (rest : List Y) (p : Option Y) → (old ++ cons_option p []) ++ rest ≡ old ++ cons_option p rest
-    joined rest None = ap (λ l. l ++ rest) (append-nil old)
-    joined rest (Some y) = append_assoc old (y ∷ []) rest
+    joined rest p = grind (arith, append-nil old, append_assoc old)
 
 -- nothing is left of a list
 pub all_done : {X Y : Type 0} (F : List X → List Y) → F [] ≡ [] → (done all : List Y) (xs : List X) (i : ℕ) → length xs ≤ i → done ++ F (drop i xs) ≡ all → done ≡ all

@@ -1,13 +1,12 @@
 -- Nodes that stand for one entity, both ways and one after another.
-use Rattle.std.proofs.Common.{◌≡◌, ◌&&◌, ◌||◌, not, Bool, true, false, Some, None, List, [], ◌∷◌, IsTrue, sym, refl, ap, ◌∙◌, subst}
-use Rattle.std.proofs.Math.Bool.{and_comm}
+use Rattle.std.proofs.Common.{◌≡◌, ◌||◌, Bool, false, List, [], ◌∷◌, IsTrue, sym, refl, ap, ◌∙◌, subst, arith}
 use Rattle.std.specs.List.{list_any}
 use Rattle.bor_terms.proofs.Texts.{same_sym}
 use Rattle.bods_read.specs.declared.details.Identifier.{Identifier}
 use Rattle.bor_records.specs.declared.links.node.Node.{Node}
 use Rattle.bor_records.specs.declared.links.node.OpenNode.{OpenNode}
-use Rattle.bor_records.specs.Links.Nodes.{same_node}
-use Rattle.bor_records.specs.Links.Shown.{Shown, listed_at, is_entity, same_identifier, share_identifier, same_record, are_alike}
+use Rattle.bor_records.specs.Links.Orders.{node_equiv}
+use Rattle.bor_records.specs.Links.Shown.{Shown, same_identifier, share_identifier, same_record, are_alike}
 use Rattle.bor_records.specs.Links.Aliases.{Alias, IsAliasPath, Same}
 
 -- ---- aliases go both ways
@@ -15,23 +14,16 @@ any_none : {X : Type 0} (xs : List X) → list_any (λ x. false) xs ≡ false
 any_none [] = refl
 any_none (x ∷ xs) = any_none xs
 
-or_swap : (a b c d : Bool) → ((a || b) || (c || d)) ≡ ((a || c) || (b || d))
-or_swap true b c d = refl
-or_swap false true true d = refl
-or_swap false true false d = refl
-or_swap false false c d = refl
-
 any_or : {X : Type 0} (f g : X → Bool) (xs : List X) → list_any (λ x. f x || g x) xs ≡ (list_any f xs || list_any g xs)
 any_or f g [] = refl
-any_or f g (x ∷ xs) = ap (λ (b : Bool). (f x || g x) || b) (any_or f g xs) ∙ or_swap (f x) (g x) (list_any f xs) (list_any g xs)
+any_or f g (x ∷ xs) = grind (arith, any_or f g xs)
 
 pub any_turn : {X Y : Type 0} (f : X → Y → Bool) (xs : List X) (ys : List Y) → list_any (λ x. list_any (λ y. f x y) ys) xs ≡ list_any (λ y. list_any (λ x. f x y) xs) ys
 any_turn f [] ys = sym (any_none ys)
 any_turn f (x ∷ xs) ys = ap (λ (b : Bool). list_any (λ y. f x y) ys || b) (any_turn f xs ys) ∙ sym (any_or (λ y. f x y) (λ y. list_any (λ z. f z y) xs) ys)
 
 pub any_like : {X : Type 0} (f g : X → Bool) (xs : List X) → ((x : X) → f x ≡ g x) → list_any f xs ≡ list_any g xs
-any_like f g [] e = refl
-any_like f g (x ∷ xs) e = ap (λ (b : Bool). b || list_any f xs) (e x) ∙ ap (λ (b : Bool). g x || b) (any_like f g xs e)
+any_like f g xs e = λ i. list_any (λ x. e x i) xs
 
 identifier_turn : (i j : Identifier) → same_identifier i j ≡ same_identifier j i
 identifier_turn i j = rw (same_sym i.scheme j.scheme, same_sym i.id j.id)
@@ -45,22 +37,8 @@ share_turn xs ys =
 same_record_turn : (a b : Node) → same_record a b ≡ same_record b a
 same_record_turn a b = rw (same_sym a.agent b.agent, same_sym a.declaration b.declaration, same_sym a.rec b.rec)
 
-same_node_turn : (a b : Node) → same_node a b ≡ same_node b a
-same_node_turn a b = rw (same_sym a.agent b.agent, same_sym a.declaration b.declaration, same_sym a.rec b.rec)
-
-all_turn : (p q r s t p' q' r' s' t' : Bool) → p ≡ q' → q ≡ p' → r ≡ r' → s ≡ s' → t ≡ t'
-    → (p && q && (r || s && not t)) ≡ (p' && q' && (r' || s' && not t'))
-all_turn p q r s t p' q' r' s' t' e f g h k =
-    ap (λ (b : Bool). b && (r || s && not t)) (and_comm p q ∙ ap (λ (b : Bool). b && p) f ∙ ap (λ (b : Bool). p' && b) e)
-    ∙ ap (λ (b : Bool). p' && q' && (b || s && not t)) g
-    ∙ ap (λ (b : Bool). p' && q' && (r' || b && not t)) h
-    ∙ ap (λ (b : Bool). p' && q' && (r' || s' && not b)) k
-
 alike_turn : (x y : OpenNode) → are_alike x y ≡ are_alike y x
-alike_turn x y =
-    all_turn (is_entity x.info) (is_entity y.info) (same_record x.node y.node) (share_identifier x.identifiers y.identifiers) (same_node x.node y.node)
-    (is_entity y.info) (is_entity x.info) (same_record y.node x.node) (share_identifier y.identifiers x.identifiers) (same_node y.node x.node)
-    refl refl (same_record_turn x.node y.node) (share_turn x.identifiers y.identifiers) (same_node_turn x.node y.node)
+alike_turn x y = grind (arith, same_record_turn x.node y.node, share_turn x.identifiers y.identifiers, node_equiv.symm x.node y.node)
 
 pub alias_turn : (s : Shown) (a b : Node) → Alias s a b → Alias s b a
 alias_turn s a b h = record {
@@ -88,8 +66,3 @@ same_turn s a b h = steps_turn s a h.0 b h.1
 pub same_reached : (s : Shown) (P : Node → Type 0) → ((b c : Node) → P b → Alias s b c → P c) → (a : Node) (cs : List Node) (b : Node) → IsAliasPath s a cs b → P a → P b
 same_reached s P closed a [] b h p = subst P h p
 same_reached s P closed a (c ∷ cs) b h p = same_reached s P closed c cs b h.1 (closed a c p h.0)
-
--- a node that isn't listed is the same as itself alone
-pub same_alone : (s : Shown) (a : Node) (cs : List Node) (b : Node) → listed_at s.nodes a ≡ None → IsAliasPath s a cs b → a ≡ b
-same_alone s a [] b gone h = h
-same_alone s a (c ∷ cs) b gone h = absurd (let no : None ≡ Some (h.0).one = sym gone ∙ (h.0).one_is in cc)

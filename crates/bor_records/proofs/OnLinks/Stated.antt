@@ -1,37 +1,26 @@
 -- The node that a record shows, by the statement that it shows.
-use Rattle.std.proofs.Common.{◌≡◌, ℤ, Option, Some, None, option_map, option_and_then, List, refl, ◌∙◌, sym, ap}
+use Rattle.std.proofs.Common.{◌≡◌, ℤ, Option, Some, None, option_map, option_and_then, List, ap, arith}
 use Rattle.bods_read.specs.declared.details.Details.{Details}
-use Rattle.bods_read.specs.declared.details.Details.TheVariants as details
 use Rattle.bods_read.specs.declared.statement.Statement.{Statement}
 use Rattle.bor_records.specs.declared.row.Row.{Row}
 use Rattle.bor_records.specs.declared.links.node.Node.{Node}
 use Rattle.bor_records.specs.declared.links.node.OpenNode.{OpenNode}
 use Rattle.bor_records.specs.Links.ByKey.{node_at}
-use Rattle.bor_records.specs.Links.Rows.{info_stated, node_in, node_with, shown_of}
+use Rattle.bor_records.specs.Links.Rows.{info_stated, node_with, shown_of}
 use Rattle.bor_records.specs.Links.Series.{open_at}
 use Rattle.bor_records.specs.Links.Shown.{info_of}
 use Rattle.bor_records.proofs.OnLinks.ByKey.{listed_by_key, open_at_in}
 
 info_made : (n : Node) (d : Details) → option_map (λ (x : OpenNode). x.info) (node_with n d) ≡ info_stated d
-info_made n (details.Entity kind name identifiers) = refl
-info_made n (details.Person kind name) = refl
-info_made n (details.Relationship subject party interests) = refl
+info_made n d = grind arith
 
 module _ (day : ℤ) (rows : List Row) (n : Node) where
   -- a node is what the statement says that its record shows
   pub node_open : (t : Option Statement) → t ≡ option_map (λ (r : Row). r.statement) (open_at day n rows) → option_and_then (λ (s : Statement). node_with n s.details) t ≡ node_at day n rows
-  node_open t is = ap (option_and_then (λ (s : Statement). node_with n s.details)) is ∙ go (open_at day n rows) refl
-    where
-      go : (o : Option Row) → open_at day n rows ≡ o → option_and_then (λ (s : Statement). node_with n s.details) (option_map (λ (r : Row). r.statement) o) ≡ option_and_then node_in o
-      go None e = refl
-      go (Some r) e = ap (λ (m : Node). node_with m r.statement.details) (sym (open_at_in day n rows r e).1)
+  node_open t is = grind (arith, is, open_at_in day n rows)
 
   pub info_open : (t : Option Statement) → t ≡ option_map (λ (r : Row). r.statement) (open_at day n rows) → option_and_then (λ (s : Statement). info_stated s.details) t ≡ info_of (shown_of day rows) n
-  info_open t is = go t ∙ ap (option_map (λ (x : OpenNode). x.info)) (node_open t is ∙ sym (listed_by_key day n rows))
-    where
-      go : (o : Option Statement) → option_and_then (λ (s : Statement). info_stated s.details) o ≡ option_map (λ (x : OpenNode). x.info) (option_and_then (λ (s : Statement). node_with n s.details) o)
-      go None = refl
-      go (Some s) = sym (info_made n s.details)
+  info_open t is = grind (arith, info_made n, node_open t is, listed_by_key day n rows)
 
   -- the same, by its row
   pub row_open : (row : Row) → Some row ≡ open_at day n rows → info_stated row.statement.details ≡ info_of (shown_of day rows) n

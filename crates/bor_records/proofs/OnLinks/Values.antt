@@ -1,9 +1,10 @@
 -- Maps that have several values under a key, one value after the other.
-use Rattle.std.proofs.Common.{◌≡◌, ◌⊎◌, ◌++◌, Bool, true, false, cond, Option, Some, None, List, [], ◌∷◌, Contains, refl, sym, ap, ◌∙◌, subst, inl, inr}
+use Rattle.std.proofs.Common.{◌≡◌, ◌⊎◌, ◌++◌, cond, Some, None, List, [], ◌∷◌, Contains, sym, ap, subst, inl, inr, arith}
 use Rattle.std.specs.BTreeMap.{BTreeMap, get, is_at}
 use Rattle.std.specs.Map.{lookup}
 use Rattle.std.specs.Ordering.{is_eq}
 use Rattle.std.specs.declared.cmp.Ordering.{Ordering}
+use Rattle.std.proofs.lemmas.Bool.{cond_both}
 use Rattle.std.proofs.lemmas.List.Elements.{Contains-append_left, Contains-push, Contains-push_cases}
 use Rattle.std.proofs.lemmas.Map.Lookups.{CmpEqualImpliesEq}
 use Rattle.std.proofs.lemmas.Map.Views.{tells_apart}
@@ -23,23 +24,16 @@ pub put_under : {K X : Type 0} (cmp : K → K → Ordering) (m less more : BTree
     → ((q : K) → get cmp less q ≡ cond (is_eq (cmp key q)) None (get cmp m q))
     → ((q : K) → get cmp more q ≡ cond (is_eq (cmp key q)) (Some new) (get cmp less q))
     → (q : K) → under cmp more q ≡ cond (is_eq (cmp key q)) (under cmp m key ++ x ∷ []) (under cmp m q)
-put_under {K} {X} cmp m less more key new x is removed put q =
-    ap (λ (o : Option (Values X)). values_under o) (put q ∙ ap (λ (o : Option (Values X)). cond (is_eq (cmp key q)) (Some new) o) (removed q)) ∙ of (is_eq (cmp key q))
-  where
-    of : (b : Bool) → values_under (cond b (Some new) (cond b None (get cmp m q))) ≡ cond b (under cmp m key ++ x ∷ []) (under cmp m q)
-    of true = is
-    of false = refl
+put_under cmp m less more key new x is removed put q = grind (arith, removed q, put q)
 
 -- ---- nodes under keys
 
 module _ {K : Type 0} (cmp : K → K → Ordering) (exact : CmpEqualImpliesEq cmp) where
   -- what one value more keeps
   pub stays_put : (key : K) (n : Node) (was now : K → List Node) → ((q : K) → now q ≡ cond (is_eq (cmp key q)) (was key ++ n ∷ []) (was q)) → (k : K) (m : Node) → Contains (was k) m → Contains (now k) m
-  stays_put key n was now put k m h = subst (λ (ns : List Node). Contains ns m) (sym (put k)) (go (is_eq (cmp key k)) refl)
-    where
-      go : (b : Bool) → is_eq (cmp key k) ≡ b → Contains (cond b (was key ++ n ∷ []) (was k)) m
-      go true e = Contains-append_left (was key) (n ∷ []) m (subst (λ (z : K). Contains (was z) m) (sym (tells_apart exact key k e)) h)
-      go false e = h
+  stays_put key n was now put k m h =
+      subst (λ (ns : List Node). Contains ns m) (sym (put k)) (cond_both (is_eq (cmp key k)) (was key ++ n ∷ []) (was k) (λ ns. Contains ns m)
+      (λ e. Contains-append_left (was key) (n ∷ []) m (subst (λ (z : K). Contains (was z) m) (sym (tells_apart exact key k e)) h)) (λ e. h))
 
   -- a key is put, and those before it are left
   pub put_there : (ks js : List K) (key : K) (n m : Node) (was now : K → List Node) → js ≡ ks ++ key ∷ [] → n ≡ m → now key ≡ was key ++ n ∷ []
@@ -53,11 +47,10 @@ module _ {K : Type 0} (cmp : K → K → Ordering) (exact : CmpEqualImpliesEq cm
 
   -- what one value more adds
   pub only_put : (key : K) (n : Node) (was now : K → List Node) → ((q : K) → now q ≡ cond (is_eq (cmp key q)) (was key ++ n ∷ []) (was q)) → (k : K) (m : Node) → Contains (now k) m → Contains (was k) m ⊎ ((key ≡ k) × (m ≡ n))
-  only_put key n was now put k m h = go (is_eq (cmp key k)) refl (subst (λ (ns : List Node). Contains ns m) (put k) h)
-    where
-      go : (b : Bool) → is_eq (cmp key k) ≡ b → Contains (cond b (was key ++ n ∷ []) (was k)) m → Contains (was k) m ⊎ ((key ≡ k) × (m ≡ n))
-      go true e on = elim (Contains-push_cases (was key) n m on) [
+  only_put key n was now put k m h =
+      cond_both (is_eq (cmp key k)) (was key ++ n ∷ []) (was k) (λ ns. Contains ns m → Contains (was k) m ⊎ ((key ≡ k) × (m ≡ n)))
+      (λ e on. elim (Contains-push_cases (was key) n m on) [
         | inl old ↦ inl (subst (λ (z : K). Contains (was z) m) (tells_apart exact key k e) old)
         | inr is ↦ inr (tells_apart exact key k e, sym is)
-      ]
-      go false e on = inl on
+      ])
+      (λ e on. inl on) (subst (λ (ns : List Node). Contains ns m) (put k) h)

@@ -39,6 +39,7 @@ impl Model for Class {
 
 impl Class {
     /// No node.
+    #[tactic(auto, using(crate::proofs::OnLinks::InOrder::none_once))]
     pub fn new(alloc: Global) -> Class
         ensures { result ≡ [] }
     {

@@ -43,7 +43,7 @@ fn is_share_or_vote(kind: InterestKind) -> bool
     kind == InterestKind::Shareholding || kind == InterestKind::VotingRights
 }
 
-#[tactic(auto, using(crate::proofs::OnLinks::Wholes::whole_above_zero))]
+#[tactic(auto, using(crate::proofs::OnLinks::Stakes::whole_above_zero))]
 fn may_be_above_zero(interest: &Interest) -> bool
     ensures { result ≡ may_be_above_zero interest.now }
 {
@@ -53,7 +53,7 @@ fn may_be_above_zero(interest: &Interest) -> bool
     }
 }
 
-#[tactic(auto, using(crate::proofs::OnLinks::Wholes::whole_not_above_half))]
+#[tactic(auto, using(crate::proofs::OnLinks::Stakes::whole_not_above_half))]
 fn is_above_half(interest: &Interest) -> bool
     ensures { result ≡ is_above_half interest.now }
 {

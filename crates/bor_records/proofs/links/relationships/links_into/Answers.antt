@@ -1,6 +1,4 @@
-use Rattle.std.proofs.Common.{◌∙◌, List, subst, sym}
-use Rattle.bor_records.specs.declared.links.node.Node.{Node}
-use Rattle.bor_records.specs.Links.Relationships.{HaveNaming}
+use Rattle.std.proofs.Common.{◌∙◌}
 use Rattle.bor_records.proofs.OnLinks.ByRecord.{entity_told, no_links_told}
 use Rattle.bor_records.proofs.ReadingLaws.{read_as, read_fails, read_next, read_so}
 use Rattle.bor_records.proofs.links.relationships.links_into.Goals as goal
@@ -16,4 +14,4 @@ returns-in_err-naming g c = read_fails c.from_residual-in_err-naming.ensures.1 (
 pub returns : goal.returns
 returns g c = read_as (read_next g.met.R.Records.goes_on c.in_ok-identifiers.ensures (read_next g.met.R.Records.goes_on c.in_ok-naming.ensures c.links_named.ensures))
     (λ m links is. is.1.1 (entity_told g.R.Identifiers.AsSlice.items (g.R.Records.shown m) c.args.node.now c.in_ok-identifiers.field-0 is.0 ∙ c.if-is_none.ensures)
-    (subst (λ (ns : List Node). HaveNaming (g.R.Records.shown m) c.args.node.now ns) (sym c.as_slice.ensures) is.1.0))
+    (rw (← c.as_slice.ensures) at is.1.0))

@@ -1,10 +1,8 @@
-use Rattle.std.proofs.Common.{arith, List, map, ap, subst, ◌∙◌}
+use Rattle.std.proofs.Common.{arith, ap, ◌∙◌}
 use Rattle.std.proofs.lemmas.List.{take_all}
 use Rattle.std.specs.BTreeSet.{contains}
-use Rattle.bods_read.specs.declared.details.Identifier.{Identifier}
-use Rattle.bor_records.specs.Links.Alike.{Expands}
 use Rattle.bor_records.specs.Links.Signs.{by_identifier, sign_cmp}
-use Rattle.bor_records.proofs.OnLinks.Aliasing.{expands_none, expands_identifier}
+use Rattle.bor_records.proofs.OnLinks.Signed.{expands_none, expands_identifier}
 use Rattle.bor_records.proofs.ReadingLaws.{read_next, read_so, unread, read_fails}
 use Rattle.bor_records.proofs.links.search.add_by_identifiers.Goals as goal
 
@@ -16,13 +14,11 @@ loop-identifier-preserved g c = read_so (read_next g.met.R.Records.goes_on c.loo
     (λ m is.
     expands_identifier (g.R.Records.shown m) c.args.identifiers.now c.loop-identifier.identifier-index c.identifier-item.result c.in_ok-sign.sign c.args.class.now c.loop-identifier.class c.add_by_sign.new.class
     (λ k. contains sign_cmp c.args.looked.now k) (λ k. contains sign_cmp c.loop-identifier.looked k) (λ k. contains sign_cmp c.add_by_sign.new.looked k) (omega arith)
-    (c.in_ok-sign.ensures ∙ ap (λ (i : Identifier). by_identifier i) c.identifier-item.is) is.0 is.1)
+    (c.in_ok-sign.ensures ∙ ap by_identifier c.identifier-item.is) is.0 is.1)
 
 pub returns : goal.returns
 returns g c = read_so c.loop-identifier.invariant
-    (λ m is.
-    subst (λ (ids : List Identifier). Expands (g.R.Records.shown m) (map by_identifier ids) c.args.class.now c.loop-identifier.class (λ k. contains sign_cmp c.args.looked.now k) (λ k. contains sign_cmp c.loop-identifier.looked k))
-    (take_all c.loop-identifier.identifier-index c.args.identifiers.now (omega arith)) is)
+    (λ m is. rw (take_all c.loop-identifier.identifier-index c.args.identifiers.now (omega arith)) at is)
 
 pub returns-in_err-add_by_sign : goal.returns-in_err-add_by_sign
 returns-in_err-add_by_sign g c = read_fails c.from_residual-in_err-add_by_sign.ensures.1 (read_next g.met.R.Records.goes_on c.loop-identifier.invariant c.in_err-add_by_sign.ensures)

@@ -1,11 +1,6 @@
-use Rattle.std.proofs.Common.{List, map, sym, subst}
 use Rattle.std.specs.BTreeSet.{contains}
-use Rattle.bods_read.specs.declared.details.Identifier.{Identifier}
-use Rattle.bor_records.specs.declared.links.sign.Sign.{Sign}
-use Rattle.bor_records.specs.Links.Alike.{Expands}
-use Rattle.bor_records.specs.Links.Signs.{by_identifier, sign_cmp}
-use Rattle.bor_records.proofs.OnLinks.Aliasing.{expands_both, expands_none}
-use Rattle.bor_records.proofs.OnLinks.Signed.{no_signs, signs_told}
+use Rattle.bor_records.specs.Links.Signs.{sign_cmp}
+use Rattle.bor_records.proofs.OnLinks.Signed.{expands_both, expands_none, no_signs, signs_told}
 use Rattle.bor_records.proofs.ReadingLaws.{read_as, read_fails, read_next, read_so}
 use Rattle.bor_records.proofs.links.search.add_by_node.Goals as goal
 
@@ -13,8 +8,8 @@ pub returns-in_default : goal.returns-in_default
 returns-in_default g c = read_so c.in_ok-identifiers.ensures
     (λ m told.
     let s = g.R.Records.shown m in
-    let was = λ (k : Sign). contains sign_cmp c.args.looked.now k in
-    subst (λ (ks : List Sign). Expands s ks c.args.class.now c.args.class.now was was) (sym (no_signs s g.R.Identifiers.AsSlice.items c.args.node.now _ told c.in_default.is)) (expands_none s c.args.class.now was))
+    let none = no_signs s g.R.Identifiers.AsSlice.items c.args.node.now _ told c.in_default.is in
+    rw none (expands_none s c.args.class.now (contains sign_cmp c.args.looked.now)))
 
 pub returns : goal.returns
 returns g c =
@@ -22,12 +17,10 @@ returns g c =
     (λ m _ is.
     let s = g.R.Records.shown m in
     let items = g.R.Identifiers.AsSlice.items c.in-Some.identifiers in
-    let was = λ (k : Sign). contains sign_cmp c.args.looked.now k in
-    let mid = λ (k : Sign). contains sign_cmp c.add_by_sign.new.looked k in
-    let now = λ (k : Sign). contains sign_cmp c.add_by_identifiers.new.looked k in
-    expands_both s c.in_ok-sign.sign c.args.node.now items c.args.class.now c.add_by_sign.new.class c.add_by_identifiers.new.class was mid now c.in_ok-sign.ensures
+    expands_both s c.in_ok-sign.sign c.args.node.now items c.args.class.now c.add_by_sign.new.class c.add_by_identifiers.new.class
+    (contains sign_cmp c.args.looked.now) (contains sign_cmp c.add_by_sign.new.looked) (contains sign_cmp c.add_by_identifiers.new.looked) c.in_ok-sign.ensures
     (signs_told s g.R.Identifiers.AsSlice.items c.args.node.now _ is.0 c.in-Some.identifiers c.in-Some.is) is.1.0
-    (subst (λ (ids : List Identifier). Expands s (map by_identifier ids) c.add_by_sign.new.class c.add_by_identifiers.new.class mid now) c.as_slice.ensures is.1.1))
+    (rw c.as_slice.ensures at is.1.1))
 
 pub returns-in_err-add_by_sign : goal.returns-in_err-add_by_sign
 returns-in_err-add_by_sign g c = read_fails c.from_residual-in_err-add_by_sign.ensures.1 (read_next g.met.R.Records.goes_on c.in_ok-identifiers.ensures c.in_err-add_by_sign.ensures)

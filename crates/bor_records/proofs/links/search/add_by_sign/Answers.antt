@@ -1,7 +1,7 @@
 use Rattle.std.proofs.Common.{sym, ◌∙◌}
 use Rattle.std.specs.BTreeSet.{contains}
 use Rattle.bor_records.specs.Links.Signs.{sign_cmp}
-use Rattle.bor_records.proofs.OnLinks.Aliasing.{expands_alone, expands_seen, expands_sign}
+use Rattle.bor_records.proofs.OnLinks.Signed.{expands_alone, expands_seen, expands_sign}
 use Rattle.bor_records.proofs.ReadingLaws.{read_so, unread}
 use Rattle.bor_records.proofs.links.search.add_by_sign.Goals as goal
 

@@ -1,8 +1,5 @@
-use Rattle.std.proofs.Common.{arith, List, subst}
+use Rattle.std.proofs.Common.{arith}
 use Rattle.std.proofs.lemmas.List.{take_all}
-use Rattle.bor_records.specs.declared.links.node.Node.{Node}
-use Rattle.bor_records.specs.Links.Candidates.{IsFoundIn}
-use Rattle.bor_records.specs.Links.Growth.{Grown}
 use Rattle.bor_records.proofs.OnLinks.Signed.{found_more, found_none}
 use Rattle.bor_records.proofs.ReadingLaws.{read_next, read_so, unread, read_fails}
 use Rattle.bor_records.proofs.links.search.add_signed.Goals as goal
@@ -17,7 +14,7 @@ loop-candidate-preserved g c = read_so (read_next g.met.R.Records.goes_on c.loop
 
 pub returns : goal.returns
 returns g c = read_so c.loop-candidate.invariant
-    (λ m is. subst (λ (ns : List Node). Grown (IsFoundIn (g.R.Records.shown m) c.args.sign.now ns) c.args.class.now c.loop-candidate.class) (take_all c.loop-candidate.candidate-index c.args.candidates.now (omega arith)) is)
+    (λ m is. rw (take_all c.loop-candidate.candidate-index c.args.candidates.now (omega arith)) at is)
 
 pub returns-in_err-add_if_signed : goal.returns-in_err-add_if_signed
 returns-in_err-add_if_signed g c = read_fails c.from_residual.ensures.1 (read_next g.met.R.Records.goes_on c.loop-candidate.invariant c.in_err-add_if_signed.ensures)

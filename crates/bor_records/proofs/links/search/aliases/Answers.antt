@@ -1,6 +1,6 @@
 use Rattle.std.specs.BTreeSet.{contains}
 use Rattle.bor_records.specs.Links.Signs.{sign_cmp}
-use Rattle.bor_records.proofs.OnLinks.Aliasing.{aliases_found}
+use Rattle.bor_records.proofs.OnLinks.Signed.{aliases_found}
 use Rattle.bor_records.proofs.OnLinks.Signs.{empty_has}
 use Rattle.bor_records.proofs.ReadingLaws.{read_so}
 use Rattle.bor_records.proofs.links.search.aliases.Goals as goal

@@ -1,4 +1,4 @@
-use Rattle.bor_records.proofs.OnLinks.Identifying.{are_identified}
+use Rattle.bor_records.proofs.OnLinks.Signed.{are_identified}
 use Rattle.bor_records.proofs.ReadingLaws.{read_so}
 use Rattle.bor_records.proofs.links.search.identified.Goals as goal
 

@@ -1,8 +1,7 @@
 use Rattle.std.proofs.Common.{arith}
 use Rattle.std.specs.BTreeSet.{contains}
 use Rattle.bor_records.specs.Links.Signs.{sign_cmp}
-use Rattle.bor_records.proofs.OnLinks.Aliasing.{gathered_more, gathered_start}
-use Rattle.bor_records.proofs.OnLinks.Reached.{gathered_reached, reached_told}
+use Rattle.bor_records.proofs.OnLinks.Signed.{gathered_more, gathered_start, gathered_told}
 use Rattle.bor_records.proofs.OnLinks.Signs.{empty_has}
 use Rattle.bor_records.proofs.ReadingLaws.{read_next, read_so, unread, read_fails}
 use Rattle.bor_records.proofs.links.search.same.Goals as goal
@@ -21,8 +20,7 @@ loop-next-preserved g c = read_so (read_next g.met.R.Records.goes_on c.loop-next
 pub returns : goal.returns
 returns g c = read_so c.loop-next.invariant
     (λ m is.
-    reached_told (g.R.Records.shown m) c.args.node.now c.loop-next.next c.loop-next.class c.into_nodes.result.items c.into_nodes.ensures.same (omega arith)
-    (gathered_reached (g.R.Records.shown m) c.args.node.now c.loop-next.next c.loop-next.class (λ k. contains sign_cmp c.loop-next.looked k) is) c.into_nodes.ensures.distinct)
+    gathered_told (g.R.Records.shown m) c.args.node.now c.loop-next.next c.loop-next.class c.into_nodes.result.items (λ k. contains sign_cmp c.loop-next.looked k) c.into_nodes.ensures.same (omega arith) is c.into_nodes.ensures.distinct)
 
 pub returns-in_err-add_by_node : goal.returns-in_err-add_by_node
 returns-in_err-add_by_node g c = read_fails c.from_residual-in_err-add_by_node.ensures.1 (read_next g.met.R.Records.goes_on c.loop-next.invariant c.in_err-add_by_node.ensures)

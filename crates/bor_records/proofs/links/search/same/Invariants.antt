@@ -2,7 +2,7 @@ use Rattle.std.proofs.Common.{Ok, ◌-◌, ◌^◌}
 use Rattle.std.specs.BTreeSet.{contains}
 use Rattle.bor_records.specs.Reading.{ReadsSo}
 use Rattle.bor_records.specs.Links.Signs.{sign_cmp}
-use Rattle.bor_records.proofs.OnLinks.Reached.{AreGathered}
+use Rattle.bor_records.proofs.OnLinks.Signed.{AreGathered}
 use Rattle.bor_records.proofs.links.search.same.Given as goal
 
 -- all that share a sign with a node before `next` are there, and so are those that have a noted one

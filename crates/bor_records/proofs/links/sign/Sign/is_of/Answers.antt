@@ -1,4 +1,5 @@
-use Rattle.bor_records.proofs.OnLinks.Signed.{identifiers_have, record_has}
+use Rattle.bor_records.proofs.OnLinks.Signed.{record_has}
+use Rattle.bor_records.proofs.OnLinks.Signs.{identifiers_have}
 use Rattle.bor_records.proofs.links.sign.Sign.is_of.Goals as goal
 
 pub returns-then-self : goal.returns-then-self
