@@ -1,19 +1,19 @@
 -- The answer to an agent follows from its own exchanges, the day, and what the others have published.
-use Rattle.std.proofs.Common.{◌≡◌, ℕ, ℤ, List, [], ◌∷◌, Bool, true, false, Option, Some, None, refl, ◌∙◌, sym, ap, subst, arith}
-use Rattle.std.specs.Prelude.{int_lt, if◌then◌else◌}
+use Rattle.std.proofs.Common.{◌≡◌, ℕ, List, [], ◌∷◌, Bool, true, false, Option, Some, None, refl, ◌∙◌, sym, ap, subst, arith}
+use Rattle.std.specs.Prelude.{if◌then◌else◌}
 use Rattle.bor_terms.specs.Texts.{is_same}
 use Rattle.bor_terms.proofs.Texts.{same_is, same_refl}
 use Rattle.bor_register.specs.declared.caller.Caller.{Caller}
 use Rattle.bor_register.specs.declared.caller.Caller.TheVariants.{Registrar, Agent}
 use Rattle.bor_register.specs.declared.member.Member.{Member}
-use Rattle.bor_register.specs.Register.{Register, caller_of, is_enrolled, is_taken, filings_of, new_member, with_member}
+use Rattle.bor_register.specs.Register.{Register, caller_of, is_enrolled, filings_of, new_member, with_member}
 use Rattle.bor_register.proofs.Callers.{caller_is_enrolled}
 use Rattle.bor_register.proofs.Members.{filings_absent, filings_written, other_filings}
 use Rattle.bor_desk.specs.Operations.Laws.{LeavesOthers}
 use Rattle.bor_desk.specs.Operations.Legality.{IsLegal}
 use Rattle.bor_desk.specs.Operations.Sight.{sight_of}
-use Rattle.bor_desk.specs.Operations.Registrar.{advance_step, enrol_step}
 use Rattle.bor_desk.specs.Operations.Solo.{published_beside, with_outwards, member_with, alone}
+use Rattle.bor_desk.proofs.OnOperations.Changes.{by_advance, by_enrolment}
 use Rattle.bor_desk.proofs.OnOperations.Legality.{leaves-with_filings, advance-keeps_agents, enrolment-keeps_agents}
 use Rattle.bor_desk.proofs.OnOperations.Renewals.{renewal-filings, renewal-renews_token}
 use Rattle.bor_desk.proofs.OnOperations.Alone.{filings-with_member, sight-alone}
@@ -35,34 +35,19 @@ other-with_member new [] name other = rw other refl
 other-with_member new (m ∷ ms) name other = grind (arith, other-with_member new ms name other)
 
 -- a new agent brings no filings
-enrolled-filings : (name token : List ℕ) (ms : List Member) (asked : List ℕ) (b : Bool) → is_same name asked ≡ b → is_enrolled name ms ≡ false →
-    filings_of asked (with_member (new_member name token) ms) ≡ filings_of asked ms
-enrolled-filings name token ms asked true same fresh =
-    ap (λ n. filings_of n (with_member (new_member name token) ms)) (sym (same_is name asked same))
-    ∙ filings-with_member (new_member name token) ms ∙ sym (filings_absent name ms fresh) ∙ ap (λ n. filings_of n ms) (same_is name asked same)
-enrolled-filings name token ms asked false other fresh = other-with_member (new_member name token) ms asked other
-
-enrol-filings : (r : Register) (name token asked : List ℕ) (b c : Bool) → is_enrolled name r.members ≡ b → is_taken token r ≡ c → filings_of asked (enrol_step r name token).register.members ≡ filings_of asked r.members
-enrol-filings r name token asked true c h k = rw h refl
-enrol-filings r name token asked false true h k = rw (h, k) refl
-enrol-filings r name token asked false false h k = rw (h, k) (enrolled-filings name token r.members asked (is_same name asked) refl h)
-
-advance-filings : (r : Register) (day : ℤ) (asked : List ℕ) (b : Bool) → int_lt day r.day ≡ b → filings_of asked (advance_step r day).register.members ≡ filings_of asked r.members
-advance-filings r day asked true h = rw h refl
-advance-filings r day asked false h = rw h refl
+enrolled-filings : (name token : List ℕ) (ms : List Member) (asked : List ℕ) → is_enrolled name ms ≡ false → filings_of asked (with_member (new_member name token) ms) ≡ filings_of asked ms
+enrolled-filings name token ms asked fresh =
+    grind (arith, same_is name asked, filings-with_member (new_member name token) ms, filings_absent name ms fresh, other-with_member (new_member name token) ms asked)
 
 pub registrar-filings : (r : Register) (request : RegistrarRequest) (asked : List ℕ) → filings_of asked (registrar_step r request).register.members ≡ filings_of asked r.members
-registrar-filings r (office.Day date) asked = advance-filings r date asked (int_lt date r.day) refl
-registrar-filings r (office.Enrol name token) asked = enrol-filings r name token asked _ _ refl refl
+registrar-filings r (office.Day date) asked = by_advance r date (λ o. filings_of asked o.register.members ≡ filings_of asked r.members) refl (λ later. refl)
+registrar-filings r (office.Enrol name token) asked =
+    by_enrolment r name token (λ o. filings_of asked o.register.members ≡ filings_of asked r.members) (λ fault. refl) (λ fresh free. enrolled-filings name token r.members asked fresh)
 registrar-filings r (office.Renew name token) asked = renewal-filings r name token asked
 registrar-filings r office.Register asked = refl
 
 others-filings : (r : Register) (caller : Option Caller) (request : Request) (name : List ℕ) → is_agent name caller ≡ false → filings_of name (step r caller request).register.members ≡ filings_of name r.members
-others-filings r None request name other = refl
-others-filings r (Some Registrar) (of.Registrar request) name other = registrar-filings r request name
-others-filings r (Some Registrar) (of.Agent request) name other = refl
-others-filings r (Some (Agent asking)) (of.Agent request) name other = other_filings asking name (own_after (sight_of asking r) request) r.members other
-others-filings r (Some (Agent asking)) (of.Registrar request) name other = refl
+others-filings r caller request name other = grind (arith, registrar-filings r, other_filings)
 
 -- ---- the agents that were there
 

@@ -1,8 +1,8 @@
 -- How many answers a run has, and how many of them are an agent's.
-use Rattle.std.proofs.Common.{◌≡◌, ℕ, suc, List, [], ◌∷◌, length, Option, Some, None, refl, ap, arith}
+use Rattle.std.proofs.Common.{◌≡◌, ℕ, suc, List, [], ◌∷◌, length, Option, refl, ap, arith}
 use Rattle.bor_register.specs.Register.{Register}
 use Rattle.bor_desk.specs.declared.request.Request.{Request}
-use Rattle.bor_desk.specs.Runs.{Asked, exchange, answers, agent_request, occasion_then, history, told_then, told_to}
+use Rattle.bor_desk.specs.Runs.{Asked, Occasion, exchange, answers, agent_request, occasion_then, history, told_then, told_to}
 use Rattle.bor_desk.specs.Laws.{EachIsAnswered}
 
 answers-length : (r : Register) (run : List Asked) → length (answers r run) ≡ length run
@@ -13,15 +13,10 @@ answers-length r (a ∷ rest) = ap suc (answers-length (exchange r a).register r
 pub told_to-length : {T : Type 0} (name : List ℕ) (r : Register) (run : List Asked) (all : List T) → length all ≡ length run → length (told_to name r run all) ≡ length (history name r run)
 told_to-length name r [] all same = refl
 told_to-length name r (a ∷ rest) [] same = absurd (omega arith)
-told_to-length {T} name r (a ∷ rest) (told ∷ all) same = at (agent_request name r a) (told_to-length name after rest all (omega arith))
+told_to-length {T} name r (a ∷ rest) (told ∷ all) same = at (agent_request name r a) _ _ (told_to-length name (exchange r a).register rest all (omega arith))
   where
-    after : Register
-    after = (exchange r a).register
-
-    at : (asked : Option Request) → length (told_to name after rest all) ≡ length (history name after rest) →
-        length (told_then asked told (told_to name after rest all)) ≡ length (occasion_then name r asked (history name after rest))
-    at None h = h
-    at (Some request) h = ap suc h
+    at : (asked : Option Request) (ts : List T) (os : List Occasion) → length ts ≡ length os → length (told_then asked told ts) ≡ length (occasion_then name r asked os)
+    at asked ts os h = grind arith
 
 pub each_is_answered : EachIsAnswered
 each_is_answered = record {

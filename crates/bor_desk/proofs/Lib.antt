@@ -1,5 +1,4 @@
 pub mod SeenChains
-pub mod Accounts
 pub mod SeenSnapshots
 pub mod Reports
 pub mod Steps

@@ -1,6 +1,7 @@
 -- The registrar's answers hang on the day, the tokens, the names, and what is published.
-use Rattle.std.proofs.Common.{◌≡◌, ℕ, suc, ℤ, Bool, true, false, cond, List, [], ◌∷◌, ◌++◌, map, length, Contains, Option, Some, None, option_map, is_some, append-nil, refl, sym, ap, ap₂, ◌∙◌, subst, inl, inr}
+use Rattle.std.proofs.Common.{◌≡◌, ℕ, ℤ, Bool, true, false, List, [], ◌∷◌, ◌++◌, map, length, Contains, Option, Some, None, option_map, is_some, append-nil, refl, sym, ap, ap₂, ◌∙◌, subst, inl, inr, arith}
 use Rattle.std.specs.Prelude.{if◌then◌else◌, ◌||◌, int_lt, filter}
+use Rattle.std.proofs.lemmas.List.{length-map}
 use Rattle.std.proofs.lemmas.List.Elements.{filter-append}
 use Rattle.bor_terms.specs.Texts.{is_below, is_same}
 use Rattle.bor_terms.proofs.Texts.{below_differs, same_refl, same_sym}
@@ -18,7 +19,9 @@ use Rattle.bor_desk.specs.declared.request.Request.TheVariants as of
 use Rattle.bor_desk.specs.declared.request.RegistrarRequest.TheVariants as office
 use Rattle.bor_desk.specs.declared.reply.DeskReply.TheVariants as tell
 use Rattle.bor_desk.specs.Operations.Laws.{agents_of}
-use Rattle.bor_desk.specs.Step.{exactly, registrar_step}
+use Rattle.bor_desk.specs.Operations.Registrar.{advance_step, enrol_step, renew_step, renewal}
+use Rattle.bor_desk.specs.Refusals.{of_advance, of_enrolment, of_renewal}
+use Rattle.bor_desk.specs.Step.{exactly, told}
 use Rattle.bor_desk.specs.Standing.{IsOutwardlySame, RegistrarSeesNoDraft}
 
 -- ---- an agent's lines among what is published
@@ -29,16 +32,12 @@ by_agent name o = is_same o.agent name
 own_outwards : (name : List ℕ) (fs : List AcceptedFiling) → filter (by_agent name) (map (outward name) fs) ≡ map (outward name) fs
 unfolding by_agent
 own_outwards name [] = refl
-own_outwards name (f ∷ fs) =
-    ap (λ b. cond b (outward name f ∷ filter (by_agent name) (map (outward name) fs)) (filter (by_agent name) (map (outward name) fs))) (same_refl name)
-    ∙ ap (λ (os : List Outward). outward name f ∷ os) (own_outwards name fs)
+own_outwards name (f ∷ fs) = rw (same_refl name, own_outwards name fs) refl
 
 other_outwards : (name other : List ℕ) (fs : List AcceptedFiling) → is_same other name ≡ false → filter (by_agent name) (map (outward other) fs) ≡ []
 unfolding by_agent
 other_outwards name other [] e = refl
-other_outwards name other (f ∷ fs) e =
-    ap (λ b. cond b (outward other f ∷ filter (by_agent name) (map (outward other) fs)) (filter (by_agent name) (map (outward other) fs))) e
-    ∙ other_outwards name other fs e
+other_outwards name other (f ∷ fs) e = rw (e, other_outwards name other fs e) refl
 
 none_above : (name : List ℕ) (day : ℤ) (ms : List Member) → AllAbove name ms → filter (by_agent name) (published day ms) ≡ []
 none_above name day [] h = refl
@@ -48,10 +47,7 @@ none_above name day (m ∷ ms) h =
 
 above_in : (name : List ℕ) (ms : List Member) (m : Member) → AllAbove name ms → Contains ms m → is_below name m.name ≡ true
 above_in name [] m h on = absurd (none m on)
-above_in name (x ∷ xs) m h on = elim (cases x xs m on) [
-  | inl e ↦ subst (λ (y : Member). is_below name y.name ≡ true) e h.0
-  | inr k ↦ above_in name xs m h.1 k
-]
+above_in name (x ∷ xs) m h on = grind (arith, cases x xs m on, above_in name xs m h.1, h.0)
 
 -- each agent's are its own
 of_member : (day : ℤ) (ms : List Member) (m : Member) → IsOrdered ms → Contains ms m → filter (by_agent m.name) (published day ms) ≡ outwards_of day m.name m.filings
@@ -64,10 +60,6 @@ of_member day (x ∷ xs) m h on =
       | inr k ↦ ap₂ (λ (ps qs : List Outward). ps ++ qs) (other_outwards m.name x.name (filter (is_published day) x.filings) (below_differs x.name m.name (above_in x.name xs m h.0 k))) (of_member day xs m h.1 k)
     ]
 
-long-map : {X Y : Type 0} (f : X → Y) (xs : List X) → length (map f xs) ≡ length xs
-long-map f [] = refl
-long-map f (x ∷ xs) = ap suc (long-map f xs)
-
 line_from : List Outward → List ℕ × List ℕ → AgentLine
 line_from os agent = record { agent = agent.0; published = length (filter (by_agent agent.0) os) }
 
@@ -75,7 +67,7 @@ lines_among : (day : ℤ) (os : List Outward) (ms : List Member) → ((m : Membe
 unfolding line_from
 lines_among day os [] all = refl
 lines_among day os (m ∷ ms) all =
-    let count : published_count day m.filings ≡ length (filter (by_agent m.name) os) = sym (ap (λ (xs : List Outward). length xs) (all m (here m ms)) ∙ long-map (outward m.name) (filter (is_published day) m.filings)) in
+    let count : published_count day m.filings ≡ length (filter (by_agent m.name) os) = sym (ap (λ (xs : List Outward). length xs) (all m (here m ms)) ∙ length-map (filter (is_published day) m.filings) (outward m.name)) in
     ap₂ (λ (n : ℕ) (ls : List AgentLine). let line : AgentLine = record { agent = m.name; published = n } in line ∷ ls) count (lines_among day os ms (λ x on. all x (there m ms x on)))
 
 lines_are : (r : Register) → IsOrdered r.members → map (agent_line r.day) r.members ≡ map (line_from (published r.day r.members)) (agents_of r.members)
@@ -113,33 +105,24 @@ module _ (r q : Register) (same : IsOutwardlySame r q) where
   taken_same : (token : List ℕ) → is_taken token r ≡ is_taken token q
   taken_same token = taken-caller token r ∙ ap (λ (o : Option Caller). is_some o) (caller_same token) ∙ sym (taken-caller token q)
 
+advance_told : (date : ℤ) (r q : Register) → int_lt date r.day ≡ int_lt date q.day → (advance_step r date).answer ≡ (advance_step q date).answer
+advance_told date r q same = grind arith
+
+enrolment_told : (name token : List ℕ) (r q : Register) → is_enrolled name r.members ≡ is_enrolled name q.members → is_taken token r ≡ is_taken token q → (enrol_step r name token).answer ≡ (enrol_step q name token).answer
+enrolment_told name token r q named taken = grind arith
+
+renewal_told : (name token : List ℕ) (r q : Register) (known : Option Caller) → (renewal r name token known).answer ≡ (renewal q name token known).answer
+renewal_told name token r q known = grind arith
+
+renew_told : (name token : List ℕ) (r q : Register) → is_enrolled name r.members ≡ is_enrolled name q.members → caller_of token r ≡ caller_of token q → (renew_step r name token).answer ≡ (renew_step q name token).answer
+renew_told name token r q named known =
+    let renewed = renewal_told name token r q (caller_of token r) ∙ ap (λ (c : Option Caller). (renewal q name token c).answer) known in
+    grind (arith, renewed)
+
 pub registrar_sees_no_draft : RegistrarSeesNoDraft
-registrar_sees_no_draft r q (of.Registrar (office.Day date)) legal lawful same = at (int_lt date r.day) refl
-  where
-    at : (b : Bool) → int_lt date r.day ≡ b → (registrar_step r (office.Day date)).answer ≡ (registrar_step q (office.Day date)).answer
-    at true e = let e' : int_lt date q.day ≡ true = sym (ap (int_lt date) same.day) ∙ e in rw (e, e') refl
-    at false e = let e' : int_lt date q.day ≡ false = sym (ap (int_lt date) same.day) ∙ e in rw (e, e') refl
-registrar_sees_no_draft r q (of.Registrar (office.Enrol name token)) legal lawful same = at (is_enrolled name r.members) (is_taken token r) refl refl
-  where
-    at : (b c : Bool) → is_enrolled name r.members ≡ b → is_taken token r ≡ c → (registrar_step r (office.Enrol name token)).answer ≡ (registrar_step q (office.Enrol name token)).answer
-    at b c e f = by b c e f (sym (enrolled_same r q same name) ∙ e) (sym (taken_same r q same token) ∙ f)
-      where
-        by : (b c : Bool) → is_enrolled name r.members ≡ b → is_taken token r ≡ c → is_enrolled name q.members ≡ b → is_taken token q ≡ c → (registrar_step r (office.Enrol name token)).answer ≡ (registrar_step q (office.Enrol name token)).answer
-        by true c e f g h = rw (e, g) refl
-        by false true e f g h = rw (e, f, g, h) refl
-        by false false e f g h = rw (e, f, g, h) refl
-registrar_sees_no_draft r q (of.Registrar (office.Renew name token)) legal lawful same = at (is_enrolled name r.members) (caller_of token r) refl refl (sym (enrolled_same r q same name)) (sym (caller_same r q same token))
-  where
-    at : (b : Bool) (c : Option Caller) → is_enrolled name r.members ≡ b → caller_of token r ≡ c → is_enrolled name q.members ≡ is_enrolled name r.members → caller_of token q ≡ caller_of token r →
-        (registrar_step r (office.Renew name token)).answer ≡ (registrar_step q (office.Renew name token)).answer
-    at false c e f g h = let g' = g ∙ e in rw (e, g') refl
-    at true None e f g h = let g' = g ∙ e in let h' = h ∙ f in rw (e, f, g', h') refl
-    at true (Some Registrar) e f g h = let g' = g ∙ e in let h' = h ∙ f in rw (e, f, g', h') refl
-    at true (Some (Agent owner)) e f g h = let g' = g ∙ e in let h' = h ∙ f in owned (is_same owner name) refl g' h'
-      where
-        owned : (d : Bool) → is_same owner name ≡ d → is_enrolled name q.members ≡ true → caller_of token q ≡ Some (Agent owner) → (registrar_step r (office.Renew name token)).answer ≡ (registrar_step q (office.Renew name token)).answer
-        owned true k g' h' = rw (e, f, g', h', k) refl
-        owned false k g' h' = rw (e, f, g', h', k) refl
+registrar_sees_no_draft r q (of.Registrar (office.Day date)) legal lawful same = ap (told tell.Day of_advance) (advance_told date r q (ap (int_lt date) same.day))
+registrar_sees_no_draft r q (of.Registrar (office.Enrol name token)) legal lawful same = ap (told tell.Enrolled of_enrolment) (enrolment_told name token r q (enrolled_same r q same name) (taken_same r q same token))
+registrar_sees_no_draft r q (of.Registrar (office.Renew name token)) legal lawful same = ap (told tell.Renewed of_renewal) (renew_told name token r q (enrolled_same r q same name) (caller_same r q same token))
 registrar_sees_no_draft r q (of.Registrar office.Register) legal lawful same =
     ap₂ (λ (ls : List AgentLine) (day : ℤ). exactly (tell.Register ls day))
     (lines_are r legal.names ∙ ap₂ (λ (os : List Outward) (names : List (List ℕ × List ℕ)). map (line_from os) names) same.published same.agents ∙ sym (lines_are q lawful.names)) same.day

@@ -1,5 +1,5 @@
 -- The text of an outcome.
-use Rattle.std.proofs.Common.{◌≡◌, inl, inr, Result, IfOk, IfErr, ℕ, ℤ, List, ◌++◌, Ok, Err, codes, refl, sym, ap, ◌∙◌, subst}
+use Rattle.std.proofs.Common.{◌≡◌, arith, Result, IfOk, IfErr, ℕ, ℤ, List, ◌++◌, Ok, Err, codes, refl, sym, ap, ◌∙◌, subst}
 use Rattle.bor_register.specs.declared.fault.StoreFault.{StoreFault}
 use Rattle.bor_register.specs.declared.fault.StoreFault.TheVariants.{Memory}
 use Rattle.bor_register.specs.declared.filing.Outward.{Outward}
@@ -54,8 +54,7 @@ told-err (Refused why) made only h = h.err
 told-err (Failed fault) made only h = subst (λ (m : Result Text StoreFault). IfErr m (λ f. f ≡ Memory)) (sym h) (only fault refl)
 
 memory_only : (before after : ℕ) (fault : StoreFault) → machine.IsTellable (λ f. f ≡ Memory) before after fault → fault ≡ Memory
-memory_only before after fault (inl h) = h.0
-memory_only before after fault (inr h) = h.0
+memory_only before after fault h = grind arith
 
 -- a keep whose only fault is want of memory
 only_memory : (fault : LodgeFault) (f : StoreFault) (before after : ℕ) → machine.ByStore (machine.of_lodging fault) (Unit {0}) (machine.IsTellable (λ g. g ≡ Memory) before after) → Failed f ≡ of_lodging fault → f ≡ Memory

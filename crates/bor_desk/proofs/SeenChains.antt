@@ -1,8 +1,8 @@
 -- Who stands behind an entity, and why, by the nodes and links that a viewer sees.
-use Rattle.std.proofs.Common.{◌≡◌, ℕ, ℤ, cond, inl, inr, Option, Some, None, List, Result, Ok, Err, IsErr, IsErrAnd, refl, sym, ap, subst}
+use Rattle.std.proofs.Common.{◌≡◌, ℕ, ℤ, Bool, arith, cond, inl, inr, Option, Some, None, List, Result, Ok, Err, IsErr, IsErrAnd, refl, sym, ap, subst}
 use Rattle.bor_records.specs.declared.links.node.Node.{Node}
 use Rattle.bor_records.specs.declared.links.node.NodeInfo.{NodeInfo}
-use Rattle.bor_records.specs.declared.links.node.NodeInfo.TheVariants.{Entity, Person}
+use Rattle.bor_records.specs.declared.links.node.NodeInfo.TheVariants.{Entity}
 use Rattle.bor_records.specs.Promises.{Kept, Meaning, Promised, StaysClean}
 use Rattle.bor_chains.specs.declared.fault.ChainFault.{ChainFault}
 use Rattle.bor_chains.specs.declared.fault.ChainFault.TheVariants as chains
@@ -15,7 +15,8 @@ use Rattle.bor_register.specs.Seen.{seen_at}
 use Rattle.bor_desk.specs.declared.operations.keep_source.KeepSource.{KeepSource}
 use Rattle.bor_desk.specs.Operations.Sight.{seen_by}
 use Rattle.bor_desk.specs.Operations.Outlook.{Outlook}
-use Rattle.bor_desk.specs.Operations.Outcomes.{Accounts, ByStore, store_fault}
+use Rattle.bor_desk.specs.Operations.Outcomes.{Accounts, store_fault}
+use Rattle.bor_desk.proofs.OnOperations.Outcomes.{unless_store}
 use Rattle.bor_desk.proofs.OnOperations.SeenLinks.{numbers_make_no_links}
 use Rattle.bor_desk.specs.declared.refusal.Refusal.TheVariants.{NoEntity}
 use Rattle.bor_desk.specs.declared.refusal.DeskFault.{DeskFault}
@@ -29,12 +30,10 @@ pub entity-report : (s : Shown) (n : Node) (day : ℤ) → IsEntity s n → repo
 entity-report s n day h = ap (λ (info : Option NodeInfo). cond (is_entity_info info) (report n day s) (refused NoEntity)) h.1
 
 pub no_entity-refused : (s : Shown) (n : Node) (day : ℤ) → (IsEntity s n → ⊥) → report_on s n day ≡ refused NoEntity
-no_entity-refused s n day none = at (info_of s n) refl
+no_entity-refused s n day none = at (info_of s n) (λ legal e. none (legal, e))
   where
-    at : (info : Option NodeInfo) → info_of s n ≡ info → report_on s n day ≡ refused NoEntity
-    at None e = ap (λ (i : Option NodeInfo). cond (is_entity_info i) (report n day s) (refused NoEntity)) e
-    at (Some (Person info)) e = ap (λ (i : Option NodeInfo). cond (is_entity_info i) (report n day s) (refused NoEntity)) e
-    at (Some (Entity legal)) e = absurd (none (legal, e))
+    at : (info : Option NodeInfo) → ((legal : Bool) → info ≡ Some (Entity legal) → ⊥) → cond (is_entity_info info) (report n day s) (refused NoEntity) ≡ refused NoEntity
+    at info never = grind arith
 
 -- what is right by the nodes and links that a viewer sees
 pub chains-found : (right : Shown → Type 0) (day : ℤ) (viewer : List ℕ) (r : Register) (n : Node) → IsEntity (seen_at viewer day r) n → right (seen_at viewer day r) →
@@ -99,12 +98,8 @@ keep-accounts {K} meaning old new x y fault begins ends a =
     subst (λ (k : K). Accounts meaning old k fault) (sym ends) (subst (λ (k : K). Accounts meaning k y.keep.now fault) begins (record {
       counted = a.counted;
       told = λ r h clean. a.told (record { viewer = x.viewer.now; day = x.day; register = r }) (refl, refl, h) clean;
-      lasts = at fault a.lasts;
+      lasts = unless_store fault (StaysClean (lent meaning) x y) (StaysClean meaning x.keep.now y.keep.now) (λ h. record { sound = h.sound; clean = h.clean }) a.lasts;
     }))
-  where
-    at : (o : Option StoreFault) → ByStore o (StaysClean (lent meaning) x y) (λ f. Unit {0}) → ByStore o (StaysClean meaning x.keep.now y.keep.now) (λ f. Unit {0})
-    at None h = record { sound = h.sound; clean = h.clean }
-    at (Some f) h = tt
 
 -- what was found leaves the count, and a clean keep clean
 pub found-accounts : {K W T : Type 0} {found : T} (meaning : Meaning K Register W StoreFault) (old new : K) (x y : KeepSource K) → x.keep.now ≡ old → new ≡ y.keep.now → ReportAccounts (lent meaning) x y (Ok found) → Accounts meaning old new None

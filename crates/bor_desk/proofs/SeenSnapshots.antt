@@ -1,11 +1,11 @@
 -- The snapshot of an agent's declaration is the same from the rows that the keep tells of it and from all that the viewer sees.
-use Rattle.std.proofs.Common.{◌≡◌, ℕ, ℤ, ◌+◌, Bool, true, false, List, [], ◌∷◌, ◌++◌, map, Option, Some, None, option_map, option_and_then, refl, sym, ap, ◌∙◌, cond}
+use Rattle.std.proofs.Common.{◌≡◌, ℕ, ℤ, ◌+◌, arith, Bool, true, false, List, [], ◌∷◌, ◌++◌, map, Option, None, option_map, option_and_then, refl, sym, ap, ◌∙◌, cond, inl, inr}
 use Rattle.std.specs.Prelude.{unwrap_or}
 use Rattle.std.specs.List.{filter, filter_map, last_or, cons_option}
 use Rattle.std.specs.Ordering.{nat_cmp}
 use Rattle.std.specs.Cmp.Lexicographic.{slice_cmp}
 use Rattle.std.specs.BTreeSet.{insert_key}
-use Rattle.std.proofs.lemmas.Bool.{and_parts}
+use Rattle.std.proofs.lemmas.Bool.{and_parts, cases_Bool}
 use Rattle.std.proofs.lemmas.List.{append-nil}
 use Rattle.std.proofs.lemmas.List.Elements.{filter-append}
 use Rattle.bor_terms.specs.Texts.{is_same}
@@ -13,42 +13,23 @@ use Rattle.bor_terms.proofs.Texts.{same_is, same_sym, below_differs}
 use Rattle.bods_read.specs.declared.statement.Statement.{Statement}
 use Rattle.bor_records.specs.declared.row.Row.{Row}
 use Rattle.bor_records.specs.declared.row.Entry.{Entry}
-use Rattle.bor_records.specs.Admission.{is_of, is_closed}
+use Rattle.bor_records.specs.Admission.{is_of}
 use Rattle.bor_records.specs.Snapshot.{is_dated, latest, record_rows, unless_closed, open_row, entry_of, records, snapshot}
 use Rattle.bor_records.specs.Links.ByKey.{rows_by}
 use Rattle.bor_register.specs.declared.filing.AcceptedFiling.{AcceptedFiling}
 use Rattle.bor_register.specs.declared.member.Member.{Member}
 use Rattle.bor_register.specs.Register.{Register, filings_of, AllAbove, IsOrdered}
-use Rattle.bor_register.specs.Rows.{is_visible, row_of, rows_from, rows_in, of_declaration, visible_in, rows_of, visible}
+use Rattle.bor_register.specs.Rows.{is_visible, rows_from, rows_in, of_declaration, visible_in, rows_of, visible}
+use Rattle.bor_register.proofs.OnMemory.Lists.{filter-map, last_map}
 use Rattle.bor_desk.specs.Operations.Sight.{unnumbered, seen_by}
 use Rattle.bor_desk.specs.declared.reply.DeskReply.TheVariants as tell
 
 -- ---- lists
 
--- a test that the number of a filing doesn't change
-filter-unnumbered : (p : Row → Bool) → ((r : Row) → p (unnumbered r) ≡ p r) → (rows : List Row) → filter p (map unnumbered rows) ≡ map unnumbered (filter p rows)
-filter-unnumbered p same [] = refl
-filter-unnumbered p same (r ∷ rows) = ap (λ b. cond b (unnumbered r ∷ filter p (map unnumbered rows)) (filter p (map unnumbered rows))) (same r) ∙ at (p r) (filter-unnumbered p same rows)
-  where
-    at : (b : Bool) → filter p (map unnumbered rows) ≡ map unnumbered (filter p rows)
-        → cond b (unnumbered r ∷ filter p (map unnumbered rows)) (filter p (map unnumbered rows)) ≡ map unnumbered (cond b (r ∷ filter p rows) (filter p rows))
-    at true h = ap (λ xs. unnumbered r ∷ xs) h
-    at false h = h
-
 -- of those that pass a wider test the same pass
-filter-wider : (p q : Row → Bool) → ((r : Row) → p r ≡ true → q r ≡ true) → (rows : List Row) → filter p (filter q rows) ≡ filter p rows
+pub filter-wider : {X : Type 0} (p q : X → Bool) → ((x : X) → p x ≡ true → q x ≡ true) → (xs : List X) → filter p (filter q xs) ≡ filter p xs
 filter-wider p q wide [] = refl
-filter-wider p q wide (r ∷ rows) = at (q r) (p r) refl refl (filter-wider p q wide rows)
-  where
-    at : (b c : Bool) → q r ≡ b → p r ≡ c → filter p (filter q rows) ≡ filter p rows → filter p (cond b (r ∷ filter q rows) (filter q rows)) ≡ cond c (r ∷ filter p rows) (filter p rows)
-    at true true e f h = ap (λ t. cond t (r ∷ filter p (filter q rows)) (filter p (filter q rows))) f ∙ ap (λ xs. r ∷ xs) h
-    at true false e f h = ap (λ t. cond t (r ∷ filter p (filter q rows)) (filter p (filter q rows))) f ∙ h
-    at false true e f h = absurd (let no = wide r f in cc)
-    at false false e f h = h
-
-last-unnumbered : (o : Option Row) (rows : List Row) → last_or (option_map unnumbered o) (map unnumbered rows) ≡ option_map unnumbered (last_or o rows)
-last-unnumbered o [] = refl
-last-unnumbered o (r ∷ rows) = last-unnumbered (Some r) rows
+filter-wider p q wide (x ∷ xs) = grind (arith, wide x, filter-wider p q wide xs)
 
 same_given : (f g : List ℕ → Option Row) → ((k : List ℕ) → f k ≡ g k) → (ks : List (List ℕ)) → filter_map f ks ≡ filter_map g ks
 same_given f g same [] = refl
@@ -64,22 +45,14 @@ abbrev where_is : Bool → List Row → List Row
 where_is b rows = cond b rows []
 
 by-rows_from : (agent name : List ℕ) (number place : ℕ) (ss : List Statement) (b : Bool) → is_same name agent ≡ b → rows_by agent (rows_from name number place ss) ≡ where_is b (rows_from name number place ss)
-by-rows_from agent name number place [] true e = refl
-by-rows_from agent name number place [] false e = refl
-by-rows_from agent name number place (s ∷ ss) true e = rw e (ap (λ rows. row_of name number place s ∷ rows) (by-rows_from agent name number (place + 1) ss true e))
-by-rows_from agent name number place (s ∷ ss) false e = rw e (by-rows_from agent name number (place + 1) ss false e)
+by-rows_from agent name number place [] b e = grind arith
+by-rows_from agent name number place (s ∷ ss) b e = grind (arith, by-rows_from agent name number (place + 1) ss b e)
 
 by-rows_in : (agent name : List ℕ) (fs : List AcceptedFiling) (b : Bool) → is_same name agent ≡ b → rows_by agent (rows_in name fs) ≡ where_is b (rows_in name fs)
-by-rows_in agent name [] true e = refl
-by-rows_in agent name [] false e = refl
-by-rows_in agent name (f ∷ fs) true e =
-    filter-append (by agent) (rows_from name f.number 1 f.statements) (rows_in name fs)
-    ∙ ap (λ rows. rows ++ rows_by agent (rows_in name fs)) (by-rows_from agent name f.number 1 f.statements true e)
-    ∙ ap (λ rows. rows_from name f.number 1 f.statements ++ rows) (by-rows_in agent name fs true e)
-by-rows_in agent name (f ∷ fs) false e =
-    filter-append (by agent) (rows_from name f.number 1 f.statements) (rows_in name fs)
-    ∙ ap (λ rows. rows ++ rows_by agent (rows_in name fs)) (by-rows_from agent name f.number 1 f.statements false e)
-    ∙ by-rows_in agent name fs false e
+by-rows_in agent name [] b e = grind arith
+by-rows_in agent name (f ∷ fs) b e =
+    let apart = filter-append (by agent) (rows_from name f.number 1 f.statements) (rows_in name fs) in
+    grind (arith, apart, by-rows_from agent name f.number 1 f.statements b e, by-rows_in agent name fs b e)
 
 -- none of the agents above has rows of this one
 by-above : (viewer : List ℕ) (day : ℤ) (agent : List ℕ) (ms : List Member) → AllAbove agent ms → rows_by agent (visible viewer day ms) ≡ []
@@ -93,17 +66,14 @@ by-above viewer day agent (m ∷ ms) h =
 by-visible : (viewer : List ℕ) (day : ℤ) (agent : List ℕ) (ms : List Member) → IsOrdered ms → rows_by agent (visible viewer day ms) ≡ visible_in viewer day agent (filings_of agent ms)
 by-visible viewer day agent [] h = refl
 by-visible viewer day agent (m ∷ ms) h =
-    filter-append (by agent) (visible_in viewer day m.name m.filings) (visible viewer day ms) ∙ at (is_same m.name agent) refl (by-visible viewer day agent ms h.1)
-  where
-    at : (b : Bool) → is_same m.name agent ≡ b → rows_by agent (visible viewer day ms) ≡ visible_in viewer day agent (filings_of agent ms)
-        → rows_by agent (visible_in viewer day m.name m.filings) ++ rows_by agent (visible viewer day ms) ≡ visible_in viewer day agent (cond b m.filings (filings_of agent ms))
-    at true e k =
-        let is : m.name ≡ agent = same_is m.name agent e in
-        ap (λ rows. rows ++ rows_by agent (visible viewer day ms)) (by-rows_in agent m.name (filter (is_visible viewer day m.name) m.filings) true e)
-        ∙ ap (λ rows. visible_in viewer day m.name m.filings ++ rows) (ap (λ name. rows_by name (visible viewer day ms)) (sym is) ∙ by-above viewer day m.name ms h.0)
-        ∙ append-nil (visible_in viewer day m.name m.filings)
-        ∙ ap (λ name. visible_in viewer day name m.filings) is
-    at false e k = ap (λ rows. rows ++ rows_by agent (visible viewer day ms)) (by-rows_in agent m.name (filter (is_visible viewer day m.name) m.filings) false e) ∙ k
+    filter-append (by agent) (visible_in viewer day m.name m.filings) (visible viewer day ms) ∙ elim (cases_Bool (is_same m.name agent)) [
+      | inl e ↦
+          let is : m.name ≡ agent = same_is m.name agent e in
+          rw e (ap (λ rows. rows ++ rows_by agent (visible viewer day ms)) (by-rows_in agent m.name (filter (is_visible viewer day m.name) m.filings) true e)
+          ∙ ap (λ rows. visible_in viewer day m.name m.filings ++ rows) (ap (λ name. rows_by name (visible viewer day ms)) (sym is) ∙ by-above viewer day m.name ms h.0)
+          ∙ append-nil (visible_in viewer day m.name m.filings) ∙ ap (λ name. visible_in viewer day name m.filings) is)
+      | inr e ↦ rw e (ap (λ rows. rows ++ rows_by agent (visible viewer day ms)) (by-rows_in agent m.name (filter (is_visible viewer day m.name) m.filings) false e) ∙ by-visible viewer day agent ms h.1)
+    ]
 
 -- ---- the rows of one declaration
 
@@ -117,14 +87,7 @@ insert_rec recs r = insert_key (slice_cmp nat_cmp) recs r.statement.rec
 
 records-of : (declaration : List ℕ) (rows : List Row) → records declaration (of_declaration declaration rows) ≡ records declaration rows
 records-of declaration [] = refl
-records-of declaration (r ∷ rows) = at (is_same r.statement.declaration declaration) refl (records-of declaration rows)
-  where
-    at : (b : Bool) → is_same r.statement.declaration declaration ≡ b → records declaration (of_declaration declaration rows) ≡ records declaration rows
-        → records declaration (cond b (r ∷ of_declaration declaration rows) (of_declaration declaration rows)) ≡ cond b (insert_rec (records declaration rows) r) (records declaration rows)
-    at true e h =
-        ap (λ t. cond t (insert_rec (records declaration (of_declaration declaration rows)) r) (records declaration (of_declaration declaration rows))) e
-        ∙ ap (λ recs. insert_rec recs r) h
-    at false e h = h
+records-of declaration (r ∷ rows) = grind (arith, records-of declaration rows)
 
 -- a snapshot looks at the rows of its declaration alone
 snapshot-of : (declaration : List ℕ) (day : ℤ) (rows : List Row) → snapshot declaration day (of_declaration declaration rows) ≡ snapshot declaration day rows
@@ -137,33 +100,22 @@ snapshot-of declaration day rows =
 -- ---- numbers of filings
 
 unless_closed-unnumbered : (o : Option Row) → option_and_then unless_closed (option_map unnumbered o) ≡ option_map unnumbered (option_and_then unless_closed o)
-unless_closed-unnumbered None = refl
-unless_closed-unnumbered (Some r) = at (is_closed r.status)
-  where
-    at : (b : Bool) → cond b None (Some (unnumbered r)) ≡ option_map unnumbered (cond b None (Some r))
-    at true = refl
-    at false = refl
+unless_closed-unnumbered o = grind arith
 
 open-unnumbered : (declaration : List ℕ) (day : ℤ) (rows : List Row) (rec : List ℕ) → open_row declaration day (map unnumbered rows) rec ≡ option_map unnumbered (open_row declaration day rows rec)
 open-unnumbered declaration day rows rec =
-    ap (λ rs. option_and_then unless_closed (latest day rs)) (filter-unnumbered (λ r. is_of declaration rec r.statement) (λ r. refl) rows)
-    ∙ ap (λ rs. option_and_then unless_closed (last_or None rs)) (filter-unnumbered (is_dated day) (λ r. refl) (record_rows declaration rec rows))
-    ∙ ap (option_and_then unless_closed) (last-unnumbered None (filter (is_dated day) (record_rows declaration rec rows)))
+    ap (λ rs. option_and_then unless_closed (latest day rs)) (filter-map (λ (r : Row). is_of declaration rec r.statement) unnumbered rows)
+    ∙ ap (λ rs. option_and_then unless_closed (last_or None rs)) (filter-map (is_dated day) unnumbered (record_rows declaration rec rows))
+    ∙ ap (option_and_then unless_closed) (last_map unnumbered None (filter (is_dated day) (record_rows declaration rec rows)))
     ∙ unless_closed-unnumbered (latest day (record_rows declaration rec rows))
 
 records-unnumbered : (declaration : List ℕ) (rows : List Row) → records declaration (map unnumbered rows) ≡ records declaration rows
 records-unnumbered declaration [] = refl
-records-unnumbered declaration (r ∷ rows) =
-    ap (λ recs. cond (is_same r.statement.declaration declaration) (insert_rec recs r) recs) (records-unnumbered declaration rows)
+records-unnumbered declaration (r ∷ rows) = grind (arith, records-unnumbered declaration rows)
 
 entries-unnumbered : (g : List ℕ → Option Row) (ks : List (List ℕ)) → map entry_of (filter_map (λ k. option_map unnumbered (g k)) ks) ≡ map entry_of (filter_map g ks)
 entries-unnumbered g [] = refl
-entries-unnumbered g (k ∷ ks) = at (g k) (entries-unnumbered g ks)
-  where
-    at : (o : Option Row) → map entry_of (filter_map (λ q. option_map unnumbered (g q)) ks) ≡ map entry_of (filter_map g ks)
-        → map entry_of (cons_option (option_map unnumbered o) (filter_map (λ q. option_map unnumbered (g q)) ks)) ≡ map entry_of (cons_option o (filter_map g ks))
-    at None h = h
-    at (Some r) h = ap (λ es. entry_of r ∷ es) h
+entries-unnumbered g (k ∷ ks) = grind (arith, entries-unnumbered g ks)
 
 -- a snapshot shows no number of a filing
 snapshot-unnumbered : (declaration : List ℕ) (day : ℤ) (rows : List Row) → snapshot declaration day (map unnumbered rows) ≡ snapshot declaration day rows
@@ -181,7 +133,7 @@ snapshot-seen r viewer agent declaration day ordered =
     snapshot-of declaration day (visible_in viewer r.day agent (filings_of agent r.members))
     ∙ ap (snapshot declaration day) (sym (by-visible viewer r.day agent r.members ordered))
     ∙ sym (snapshot-unnumbered declaration day (rows_by agent (visible viewer r.day r.members)))
-    ∙ ap (snapshot declaration day) (sym (filter-unnumbered (by agent) (λ row. refl) (visible viewer r.day r.members)))
+    ∙ ap (snapshot declaration day) (sym (filter-map (by agent) unnumbered (visible viewer r.day r.members)))
 
 -- what is told from the rows of the keep
 pub snapshot-told : (r : Register) (viewer agent declaration : List ℕ) (date : Option ℤ) (day : ℤ) (rows : List Row) (made entries : List Entry) → IsOrdered r.members → day ≡ unwrap_or date r.day →

@@ -1,9 +1,9 @@
 -- Two runs in which alder's history is the same, though birch does more in the one than in the other: alder is answered the same, by the definitions themselves. And a run of three agents, one of whom is enrolled in it.
 use Rattle.std.proofs.Common.{◌≡◌, ℕ, ℤ, pos, List, [], ◌∷◌, ◌++◌, length, map, Bool, true, false, Option, Some, None, Ok, codes, refl, sym, ap, ◌∙◌}
-use Rattle.std.specs.List.{filter_map, list_all, list_any}
+use Rattle.std.specs.List.{filter_map, list_all}
 use Rattle.std.specs.Prelude.{unwrap_or}
-use Rattle.bor_terms.proofs.Examples.{calendar}
 use Rattle.bor_terms.specs.Texts.{is_same}
+use Rattle.bor_terms.proofs.Examples.{calendar}
 use Rattle.bods_read.specs.declared.statement.Statement.{Statement}
 use Rattle.bods_read.specs.declared.statement.Status.TheVariants.{New}
 use Rattle.bods_read.specs.declared.details.Details.{Details}
@@ -359,11 +359,8 @@ other_name : all_in names (told_after (birch_publishes (x3_with (codes "Ann Moss
 unfolding reader calendar
 other_name = refl
 
-true_isnt_false : true ≡ false → ⊥
-true_isnt_false e = absurd cc
-
 bea_isnt_ann : Some (codes "Bea Pine") ∷ [] ≡ Some (codes "Ann Moss") ∷ [] → ⊥
-bea_isnt_ann e = true_isnt_false (ap (list_all (λ (name : Option (List ℕ)). is_same (unwrap_or name []) (codes "Bea Pine"))) e)
+bea_isnt_ann e = let no : true ≡ false = ap (list_all (λ (name : Option (List ℕ)). is_same (unwrap_or name []) (codes "Bea Pine"))) e in absurd cc
 
 name_differs : answers_to (codes "alder") start first ≡ told_after (birch_publishes (x3_with (codes "Ann Moss") (codes "100"))) → ⊥
 name_differs e = bea_isnt_ann (ap (all_in names) (sym told_in_first ∙ e) ∙ other_name)
@@ -374,7 +371,7 @@ unfolding reader calendar
 other_share = refl
 
 one_majority : false ∷ true ∷ [] ≡ false ∷ false ∷ [] → ⊥
-one_majority e = true_isnt_false (ap (list_any (λ (stake : Bool). stake)) e)
+one_majority e = absurd cc
 
 share_differs : answers_to (codes "alder") start first ≡ told_after (birch_publishes (x3_with (codes "Bea Pine") (codes "40"))) → ⊥
 share_differs e = one_majority (ap (all_in stakes) (sym told_in_first ∙ e) ∙ other_share)

@@ -1,5 +1,5 @@
 -- Records, gathered as a set of their keys.
-use Rattle.std.proofs.Common.{◌≡◌, ◌↔◌, ◌⊎◌, ◌+◌, ◌<◌, ◌++◌, ◌∙◌, ℕ, true, cond, List, [], ◌∷◌, Contains, map, take, length, get_or, sym, ap, subst, inl, inr, Result, Ok, Err, IfOk}
+use Rattle.std.proofs.Common.{◌≡◌, ◌↔◌, ◌⊎◌, ◌+◌, ◌<◌, ◌++◌, ◌∙◌, ℕ, true, cond, List, [], ◌∷◌, Contains, map, take, length, get_or, sym, ap, subst, inl, inr, arith, Result, Ok, Err, IfOk}
 use Rattle.std.specs.BTreeSet.{BTreeSet, contains}
 use Rattle.std.specs.Cmp.{IsTotalOrder, on_total, then_total}
 use Rattle.std.specs.Cmp.Lexicographic.{nat_list_cmp_total}
@@ -32,13 +32,14 @@ key_cmp a b = ordering_then (text_cmp a.agent b.agent) (ordering_then (text_cmp 
 key_total : IsTotalOrder key_cmp
 key_total = then_total (on_total (λ (k : Key). k.agent) nat_list_cmp_total) (then_total (on_total (λ (k : Key). k.declaration) nat_list_cmp_total) (on_total (λ (k : Key). k.rec) nat_list_cmp_total))
 
+key_is : (a b : Key) → a.agent ≡ b.agent → a.declaration ≡ b.declaration → a.rec ≡ b.rec → a ≡ b
+key_is a b p q r = grind arith
+
 exact_key : CmpEqualImpliesEq key_cmp
 exact_key a b h =
     let one = parts (text_cmp a.agent b.agent) (ordering_then (text_cmp a.declaration b.declaration) (text_cmp a.rec b.rec)) h in
     let two = parts (text_cmp a.declaration b.declaration) (text_cmp a.rec b.rec) one.1 in
-    ap (λ (t : List ℕ). let k : Key = record { agent = t; declaration = a.declaration; rec = a.rec } in k) (exact_bytes a.agent b.agent one.0)
-    ∙ ap (λ (t : List ℕ). let k : Key = record { agent = b.agent; declaration = t; rec = a.rec } in k) (exact_bytes a.declaration b.declaration two.0)
-    ∙ ap (λ (t : List ℕ). let k : Key = record { agent = b.agent; declaration = b.declaration; rec = t } in k) (exact_bytes a.rec b.rec two.1)
+    key_is a b (exact_bytes a.agent b.agent one.0) (exact_bytes a.declaration b.declaration two.0) (exact_bytes a.rec b.rec two.1)
 
 -- ---- one record more
 
@@ -70,14 +71,7 @@ gained_key s n k m is updates added = record { kept = kept; every = every; only 
 -- ---- one addition after the other
 
 pub gained_then : (P Q R : Node → Type 0) (a b c : List Node) → ((n : Node) → R n → P n ⊎ Q n) → ((n : Node) → P n ⊎ Q n → R n) → IsGained P a b → IsGained Q b c → IsGained R a c
-gained_then P Q R a b c apart join p q = record {
-  kept = λ n h. q.kept n (p.kept n h);
-  every = λ n h. elim (apart n h) [ inl k ↦ q.kept n (p.every n k) | inr k ↦ q.every n k ];
-  only = λ n h. elim (q.only n h) [
-    | inl k ↦ elim (p.only n k) [ inl m ↦ inl m | inr m ↦ inr (join n (inl m)) ]
-    | inr k ↦ inr (join n (inr k))
-  ];
-}
+gained_then P Q R a b c apart join p q = grind (arith, apart, join, p.kept, p.every, p.only, q.kept, q.every, q.only)
 
 pub gained_none : {X : Type 0} (P : X → Node → Type 0) (a : List Node) → IsGained (IsOfAny [] P) a a
 gained_none P a = record { kept = λ n h. h; every = λ n h. absurd (none h.0 h.1); only = λ n h. inl h }
@@ -104,13 +98,9 @@ gained_more {X} xs P i x a b c lt is p q = gained_then (IsOfAny (take i xs) P) (
 
 -- one more of a list of records
 pub gained_node : (ns : List Node) (i : ℕ) (m : Node) (a b c : List Node) → i < length ns → m ≡ get_or ns i m → IsGained (λ n. Contains (take i ns) n) a b → IsGained (λ n. n ≡ m) b c → IsGained (λ n. Contains (take (i + 1) ns) n) a c
-gained_node ns i m a b c lt is p q = gained_then (λ n. Contains (take i ns) n) (λ n. n ≡ m) (λ n. Contains (take (i + 1) ns) n) a b c apart join p q
-  where
-    apart : (n : Node) → Contains (take (i + 1) ns) n → Contains (take i ns) n ⊎ (n ≡ m)
-    apart n h = elim (Contains-take_more ns i m n lt h) [ inl k ↦ inl k | inr e ↦ inr (e ∙ sym is) ]
-
-    join : (n : Node) → Contains (take i ns) n ⊎ (n ≡ m) → Contains (take (i + 1) ns) n
-    join n h = elim h [ inl k ↦ Contains-take_front ns i m n lt k | inr e ↦ Contains-take_last ns i m n lt (e ∙ is) ]
+gained_node ns i m a b c lt is p q = gained_then (λ n. Contains (take i ns) n) (λ n. n ≡ m) (λ n. Contains (take (i + 1) ns) n) a b c
+    (λ n h. elim (Contains-take_more ns i m n lt h) [ inl k ↦ inl k | inr e ↦ inr (e ∙ sym is) ])
+    (λ n h. elim h [ inl k ↦ Contains-take_front ns i m n lt k | inr e ↦ Contains-take_last ns i m n lt (e ∙ is) ]) p q
 
 -- a link's record, then its subject, then its party
 pub gained_link : (x : EvidenceLink) (r : Node) (a b c d : List Node) → r ≡ link_record x.link → IsGained (λ n. n ≡ r) a b → IsGained (λ n. n ≡ x.link.subject) b c → IsGained (λ n. n ≡ x.link.party) c d → IsGained (IsOfLink x) a d
@@ -122,10 +112,7 @@ gained_link x r a b c d is p q t =
     apart n h = elim h [ is_record e ↦ inl (inl (e ∙ sym is)) | is_subject e ↦ inl (inr e) | is_party e ↦ inr e ]
 
     join : (n : Node) → ((n ≡ r) ⊎ (n ≡ x.link.subject)) ⊎ (n ≡ x.link.party) → IsOfLink x n
-    join n h = elim h [
-      | inl k ↦ elim k [ inl e ↦ is_record (e ∙ is) | inr e ↦ is_subject e ]
-      | inr e ↦ is_party e
-    ]
+    join n h = grind (arith, h, is_record, is_subject, is_party)
 
 -- ---- all of them
 

@@ -1,11 +1,12 @@
 -- The entities of a class by their signs.
-use Rattle.std.proofs.Common.{◌≡◌, ◌⊎◌, ◌&&◌, ◌||◌, not, ◌++◌, ◌<◌, ◌+◌, ℕ, ℤ, option_and_then, Bool, true, false, cond, Option, Some, None, List, [], ◌∷◌, Contains, IsTrue, length, take, get_or, sym, refl, ap, ◌∙◌, subst, inl, inr, Vec, Global}
+use Rattle.std.proofs.Common.{◌≡◌, ◌⊎◌, ◌&&◌, ◌||◌, not, ◌++◌, ◌<◌, ◌+◌, ℕ, ℤ, option_and_then, Bool, true, false, cond, Option, Some, None, List, [], ◌∷◌, Contains, IsTrue, length, take, get_or, sym, ap, ◌∙◌, subst, inl, inr, arith, Vec, Global}
 use Rattle.std.specs.BTreeMap.{BTreeMap, IsEmpty, get, is_at}
 use Rattle.std.specs.Map.{lookup}
 use Rattle.std.specs.Ordering.{is_eq}
 use Rattle.std.specs.declared.cmp.Ordering.{Ordering}
 use Rattle.std.proofs.lemmas.Cmp.{tied_itself}
-use Rattle.std.proofs.lemmas.Bool.{and_parts}
+use Rattle.std.specs.Prelude.{IfSome}
+use Rattle.std.proofs.lemmas.Bool.{and_parts, both_ways, cases_Bool, cond-false, cond-true}
 use Rattle.std.proofs.lemmas.List.{take_more}
 use Rattle.std.proofs.lemmas.List.Elements.{Contains-append_cases, Contains-append_left, Contains-append_right, Contains-push_cases}
 use Rattle.std.proofs.lemmas.Map.Views.{tells_apart}
@@ -18,7 +19,7 @@ use Rattle.bor_records.specs.Links.Nodes.{node_cmp, same_node}
 use Rattle.bor_records.specs.Links.Orders.{node_total}
 use Rattle.bor_records.specs.Links.Shown.{Shown, is_entity, listed_at, same_record, share_identifier}
 use Rattle.bor_records.specs.declared.row.Row.{Row}
-use Rattle.bor_records.specs.Links.Rows.{node_in, nodes_of}
+use Rattle.bor_records.specs.Links.Rows.{node_in, nodes_of, shown_of}
 use Rattle.bor_records.specs.Links.Series.{open_at}
 use Rattle.bor_records.proofs.OnLinks.ByKey.{listed_by_key}
 use Rattle.bor_records.specs.Links.Signs.{sign_cmp, signs}
@@ -32,6 +33,17 @@ use Rattle.bor_desk.specs.Kin.{AreKin, AreTaken, HasSignAt, IsKinOf, NoneFound, 
 use Rattle.bor_records.specs.declared.links.values.Values.{Values}
 use Rattle.bor_records.specs.Links.Values.{IsNoted, values_under, under}
 use Rattle.bor_records.proofs.OnLinks.Values.{empty_under}
+
+-- ---- a value is put at a node, and nowhere else
+
+pub put_here : {X : Type 0} (key : Node) (now new was : X) → now ≡ cond (is_eq (node_cmp key key)) new was → now ≡ new
+put_here key now new was put = put ∙ ap (λ (o : Ordering). cond (is_eq o) new was) (tied_itself node_total key)
+
+pub put_at : {X : Type 0} (key q : Node) (now new was : X) → now ≡ cond (is_eq (node_cmp key q)) new was → ((key ≡ q) × (now ≡ new)) ⊎ (now ≡ was)
+put_at key q now new was put = elim (cases_Bool (is_eq (node_cmp key q))) [
+  | inl e ↦ inl (tells_apart exact_node key q e, put ∙ cond-true _ new was e)
+  | inr e ↦ inr (put ∙ cond-false _ new was e)
+]
 
 -- ---- aliases share a sign
 
@@ -51,25 +63,13 @@ sign_shared s a b h =
 -- ---- nodes are taken by signs
 
 pub taken_none : (m : Sign → List Node) (was : List Node) → AreTaken [] m m was was
-taken_none m was = record {
-  kept = λ n h. h;
-  each = λ n h. inl h;
-  every = λ k n on there. absurd (none k on);
-  stays = λ k n h. h;
-  left = λ k n h. inl h;
-}
+taken_none m was = grind (arith, none)
 
 pub taken_more : (ks js : List Sign) (a b c : Sign → List Node) (u v w : List Node) → AreTaken ks a b u v → AreTaken js b c v w → AreTaken (ks ++ js) a c u w
 taken_more ks js a b c u v w one two = record {
   kept = λ n h. two.kept n (one.kept n h);
-  each = λ n h. elim (two.each n h) [
-    | inl was ↦ elim (one.each n was) [ inl old ↦ inl old | inr new ↦ inr (new.0, Contains-append_left ks js new.0 new.1, new.2) ]
-    | inr new ↦ inr (new.0, Contains-append_right ks js new.0 new.1, one.stays new.0 n new.2)
-  ];
-  every = λ k n on there. elim (Contains-append_cases ks js k on) [
-    | inl p ↦ two.kept n (one.every k n p there)
-    | inr q ↦ elim (one.left k n there) [ inl left ↦ two.every k n q left | inr now ↦ two.kept n now ]
-  ];
+  each = λ n h. grind (arith, two.each n h, one.each n, one.stays, Contains-append_left ks js, Contains-append_right ks js);
+  every = λ k n on there. grind (arith, Contains-append_cases ks js k on, two.kept n, one.every k n, one.left k n there, two.every k n);
   stays = λ k n h. one.stays k n (two.stays k n h);
   left = λ k n h. elim (one.left k n h) [ inl left ↦ two.left k n left | inr now ↦ inr (two.kept n now) ];
 }
@@ -89,7 +89,7 @@ taken_one m less k o was now found removed more = record {
   ];
   every = λ j n on there. new n (subst (λ (z : Sign). Contains (under sign_cmp m z) n) (sym (one_of k j on)) there);
   stays = λ j n h. stays j n (is_eq (sign_cmp k j)) (subst (λ (p : Option (Values Node)). Contains (values_under p) n) (removed j) h);
-  left = λ j n h. left j n (is_eq (sign_cmp k j)) refl h;
+  left = λ j n h. grind (arith, removed j, tells_apart exact_sign k j, new n);
 }
   where
     new : (n : Node) → Contains (under sign_cmp m k) n → Contains now n
@@ -98,10 +98,6 @@ taken_one m less k o was now found removed more = record {
     stays : (j : Sign) (n : Node) (b : Bool) → Contains (values_under (cond b None (get sign_cmp m j))) n → Contains (under sign_cmp m j) n
     stays j n true h = absurd (none n h)
     stays j n false h = h
-
-    left : (j : Sign) (n : Node) (b : Bool) → is_eq (sign_cmp k j) ≡ b → Contains (under sign_cmp m j) n → Contains (under sign_cmp less j) n ⊎ Contains now n
-    left j n true e h = inr (new n (subst (λ (z : Sign). Contains (under sign_cmp m z) n) (sym (tells_apart exact_sign k j e)) h))
-    left j n false e h = inl (subst (λ (p : Option (Values Node)). Contains (values_under p) n) (sym (removed j ∙ ap (λ (b : Bool). cond b None (get sign_cmp m j)) e)) h)
 
 -- ---- one entity after the other
 
@@ -120,25 +116,23 @@ kin_none s kin signs signed = record {
 pub listed_of : (day : ℤ) (rows : List Row) (node : Node) (row : Option Row) (one : Option OpenNode) → row ≡ open_at day node rows → one ≡ option_and_then node_in row → listed_at (nodes_of day rows) node ≡ one
 listed_of day rows node row one latest made = listed_by_key day node rows ∙ ap (λ (o : Option Row). option_and_then node_in o) (sym latest) ∙ sym made
 
-pub unlisted : (s : Shown) (node : Node) → listed_at s.nodes node ≡ None → (x : OpenNode) → listed_at s.nodes node ≡ Some x → IsTrue (is_entity x.info) → ⊥
-unlisted s node gone x there entity = let no : None ≡ Some x = sym gone ∙ there in cc
-
-pub person_listed : (s : Shown) (node : Node) (one : OpenNode) → listed_at s.nodes node ≡ Some one → is_entity one.info ≡ false → (x : OpenNode) → listed_at s.nodes node ≡ Some x → IsTrue (is_entity x.info) → ⊥
-person_listed s node one is person x there entity = let no : false ≡ true = sym person ∙ ap (λ (y : OpenNode). is_entity y.info) (same_Some one x (sym is ∙ there)) ∙ entity in cc
-
 -- a record that is no open entity has no sign
-pub kin_same : (s : Shown) (nodes : List Node) (node : Node) (kin : Kin) → ((x : OpenNode) → listed_at s.nodes node ≡ Some x → IsTrue (is_entity x.info) → ⊥) → AreKin s nodes NoneFound kin → AreKin s (nodes ++ node ∷ []) NoneFound kin
-kin_same s nodes node kin no_entity of = record {
+pub kin_same : (day : ℤ) (rows : List Row) (nodes : List Node) (node : Node) (kin : Kin) (row : Option Row) (one : Option OpenNode) → row ≡ open_at day node rows → one ≡ option_and_then node_in row
+    → IfSome one (λ x. is_entity x.info ≡ false) → AreKin (shown_of day rows) nodes NoneFound kin → AreKin (shown_of day rows) (nodes ++ node ∷ []) NoneFound kin
+kin_same day rows nodes node kin row one latest made closed of = record {
   of_node = of.of_node;
   of_sign = of.of_sign;
   each = λ n k on has. of.each n k (old n k on has) has;
   every = λ n k on has. of.every n k (old n k on has) has;
 }
   where
-    old : (n : Node) (k : Sign) → Contains (nodes ++ node ∷ []) n → HasSignAt s n k → Contains nodes n
+    old : (n : Node) (k : Sign) → Contains (nodes ++ node ∷ []) n → HasSignAt (shown_of day rows) n k → Contains nodes n
     old n k on has = elim (Contains-push_cases nodes node n on) [
       | inl was ↦ was
-      | inr e ↦ absurd (no_entity has.0 (ap (λ (z : Node). listed_at s.nodes z) e ∙ has.1) (has.2).0)
+      | inr e ↦
+          let is : one ≡ Some has.0 = sym (listed_of day rows node row one latest made) ∙ ap (λ (z : Node). listed_at (nodes_of day rows) z) e ∙ has.1 in
+          let no : is_entity has.0.info ≡ false = subst (λ (o : Option OpenNode). IfSome o (λ x. is_entity x.info ≡ false)) is closed in
+          absurd (both_ways (is_entity has.0.info) no (has.2).0)
     ]
 
 module _ (s : Shown) (nodes : List Node) (one : OpenNode) (kin new : Kin) (key : Node) (v : Vec Sign Global) (keyed : key ≡ one.node) (own : v.items ≡ signs one)
@@ -146,11 +140,10 @@ module _ (s : Shown) (nodes : List Node) (one : OpenNode) (kin new : Kin) (key :
     (listed : listed_at s.nodes one.node ≡ Some one) (entity : IsTrue (is_entity one.info)) where
   -- the signs of a node are its own, or as before
   signs_put : (n : Node) → ((one.node ≡ n) × (signs_listed new n ≡ signs one)) ⊎ (signs_listed new n ≡ signs_listed kin n)
-  signs_put n = at (is_eq (node_cmp key n)) refl
-    where
-      at : (b : Bool) → is_eq (node_cmp key n) ≡ b → ((one.node ≡ n) × (signs_listed new n ≡ signs one)) ⊎ (signs_listed new n ≡ signs_listed kin n)
-      at true e = inl (sym keyed ∙ tells_apart exact_node key n e, ap (λ (o : Option (Vec Sign Global)). signs_under o) (put n ∙ ap (λ (b : Bool). cond b (Some v) (get node_cmp kin.signs n)) e) ∙ own)
-      at false e = inr (ap (λ (o : Option (Vec Sign Global)). signs_under o) (put n ∙ ap (λ (b : Bool). cond b (Some v) (get node_cmp kin.signs n)) e))
+  signs_put n = elim (put_at key n (get node_cmp new.signs n) (Some v) (get node_cmp kin.signs n) (put n)) [
+    | inl p ↦ inl (sym keyed ∙ p.0, ap (λ (o : Option (Vec Sign Global)). signs_under o) p.1 ∙ own)
+    | inr e ↦ inr (ap (λ (o : Option (Vec Sign Global)). signs_under o) e)
+  ]
 
   has : (n : Node) (k : Sign) → one.node ≡ n → Contains (signs one) k → HasSignAt s n k
   has n k e h = subst (λ (z : Node). HasSignAt s z k) e (one, listed, (entity, h))
@@ -172,14 +165,11 @@ module _ (s : Shown) (nodes : List Node) (one : OpenNode) (kin new : Kin) (key :
         | inr is ↦ subst (λ (z : Node). Contains (signs_listed new z) k) is (subst (λ (ks : List Sign). Contains ks k) (sym at_own) (own_sign n k is x))
       ]
     ];
-    every = λ n k on x. elim (Contains-push_cases nodes one.node n on) [
-      | inl was ↦ elim (of.every n k was x) [ inl there ↦ inl (noted.stays k n there) | inr never ↦ inr never ]
-      | inr is ↦ inl (subst (λ (z : Node). Contains (signed_in new k) z) is (noted.there k (own_sign n k is x)))
-    ];
+    every = λ n k on x. grind (arith, Contains-push_cases nodes one.node n on, of.every n k, noted.stays k n, noted.there k, own_sign n k);
   }
     where
       at_own : signs_listed new one.node ≡ signs one
-      at_own = ap (λ (o : Option (Vec Sign Global)). signs_under o) (subst (λ (z : Node). get node_cmp new.signs z ≡ Some v) keyed (put key ∙ ap (λ (o : Ordering). cond (is_eq o) (Some v) (get node_cmp kin.signs key)) (tied_itself node_total key))) ∙ own
+      at_own = ap (λ (o : Option (Vec Sign Global)). signs_under o) (subst (λ (z : Node). get node_cmp new.signs z ≡ Some v) keyed (put_here key _ (Some v) (get node_cmp kin.signs key) (put key))) ∙ own
 
 -- ---- the class of a goal
 
@@ -210,10 +200,8 @@ module _ (s : Shown) (goal y : Node) (P : Node → Type 0) (kin new : Kin) (near
   pub alias_taken : Same s y goal → (x : Node) → Alias s y x → Contains near x ⊎ P x
   alias_taken same x alias =
       let k = sign_shared s y x alias in
-      elim ((of.told).every x k.0 (in_class x (y ∷ same.0, (alias_turn s y x alias, same.1))) k.2) [
-        | inl there ↦ inl (taken.every k.0 x ((of.told).each y k.0 (in_class y same) k.1) there)
-        | inr found ↦ inr found
-      ]
+      let listed = (of.told).every x k.0 (in_class x (y ∷ same.0, (alias_turn s y x alias, same.1))) k.2 in
+      grind (arith, listed, taken.every k.0 x ((of.told).each y k.0 (in_class y same) k.1))
 
 -- once what is taken is found, too, the class is told as before
 pub kin_taken : (s : Shown) (goal y : Node) (P Q : Node → Type 0) (kin new : Kin) (near : List Node) → IsKinOf s goal P kin → AreTaken (signs_listed kin y) (signed_in kin) (signed_in new) [] near → new.signs ≡ kin.signs
@@ -225,9 +213,6 @@ kin_taken s goal y P Q kin new near of taken signs so now = record {
     of_node = λ n k h. (of.told).of_node n k (subst (λ (m : BTreeMap Node (Vec Sign Global)). Contains (signs_under (get node_cmp m n)) k) signs h);
     of_sign = λ n k h. (of.told).of_sign n k (taken.stays k n h);
     each = λ n k on has. subst (λ (m : BTreeMap Node (Vec Sign Global)). Contains (signs_under (get node_cmp m n)) k) (sym signs) ((of.told).each n k on has);
-    every = λ n k on has. elim ((of.told).every n k on has) [
-      | inl there ↦ elim (taken.left k n there) [ inl left ↦ inl left | inr taken ↦ inr (now n taken) ]
-      | inr found ↦ inr (so n found)
-    ];
+    every = λ n k on has. grind (arith, (of.told).every n k on has, taken.left k n, now n, so n);
   };
 }

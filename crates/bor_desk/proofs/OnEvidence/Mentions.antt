@@ -1,14 +1,14 @@
--- Each record that stands in evidence is open, and what all of them say is one list.
-use Rattle.std.proofs.Common.{◌≡◌, ◌∙◌, ◌↔◌, ◌&&◌, ℤ, Bool, true, false, cond, Option, Some, None, option_map, option_and_then, List, [], ◌∷◌, Contains, map, refl, sym, ap, subst, inl, inr}
+-- Each record that stands in evidence is open, and what all of them say is one list; the links as evidence tells them, and the evidence as a whole.
+use Rattle.std.proofs.Common.{◌≡◌, ◌∙◌, ◌↔◌, ◌&&◌, ℤ, arith, Bool, true, false, cond, Option, Some, None, option_map, List, [], ◌∷◌, Contains, map, refl, sym, ap, subst, inl, inr, ◌+◌, ◌<◌, ◌≤◌, ◌++◌, ℕ, take, length, get_or, append-nil, length-append, Vec, Global, vec_capacity, Ok}
 use Rattle.std.specs.Prelude.{MatchBool}
 use Rattle.std.specs.List.Sorted.{IsStrictlySortedBy}
 use Rattle.std.specs.Cmp.{IsTotalOrder, on_total, then_total}
 use Rattle.std.specs.Cmp.Lexicographic.{nat_list_cmp_total}
 use Rattle.std.proofs.lemmas.Bool.{and_parts}
-use Rattle.std.proofs.lemmas.Option.{same_Some}
-use Rattle.bods_read.specs.declared.details.Details.{Details}
+use Rattle.std.proofs.lemmas.Option.{cond_some, option_and_then_some, same_Some}
+use Rattle.std.specs.List.{find}
+use Rattle.std.proofs.lemmas.List.{take_more}
 use Rattle.bods_read.specs.declared.details.Identifier.{Identifier}
-use Rattle.bods_read.specs.declared.details.Details.TheVariants as details
 use Rattle.bor_records.specs.declared.row.Row.{Row}
 use Rattle.bor_records.specs.declared.links.node.Node.{Node}
 use Rattle.bor_records.specs.declared.links.node.NodeInfo.{NodeInfo}
@@ -17,12 +17,10 @@ use Rattle.bor_records.specs.declared.links.node.Link.{Link}
 use Rattle.bor_records.specs.OpenRows.{open_rows}
 use Rattle.bor_records.specs.Links.Nodes.{link_record, same_node}
 use Rattle.bor_records.specs.Links.Answers.{Identified}
-use Rattle.bor_records.specs.Links.Shown.{info_in, info_of, listed_at}
-use Rattle.bor_records.specs.Links.Aliases.{IsAliasPath}
-use Rattle.bor_records.specs.Links.Series.{open_at}
-use Rattle.bor_records.specs.Links.Stakes.{is_stake, is_holding}
-use Rattle.bor_records.specs.Links.Rows.{is_entity_info, is_some_info, link_in, link_with, links_of, node_in, nodes_of, shown_of}
-use Rattle.bor_records.specs.Links.Candidates.{beside}
+use Rattle.bor_records.specs.Links.Shown.{info_in, info_of, listed_at, Shown}
+use Rattle.bor_records.specs.Links.Aliases.{IsAliasPath, Same}
+use Rattle.bor_records.specs.Links.Series.{open_at, series_of, is_of}
+use Rattle.bor_records.specs.Links.Rows.{between_open, is_entity_info, is_some_info, link_in, link_stated, links_of, node_in, nodes_of, shown_of}
 use Rattle.bor_records.proofs.OnLinks.ByKey.{listed_by_key, open_at_in, open_row_at}
 use Rattle.bor_records.proofs.OnLinks.Found.{none, here, there, cases, Contains-from_filter_map, Contains-map, Contains-from_map}
 use Rattle.bor_records.proofs.OnLinks.OfRows.{links_of_rows}
@@ -35,8 +33,16 @@ use Rattle.bor_records.proofs.OnLinks.SignsOfRows.{node_of}
 use Rattle.bor_chains.proofs.OneAnswer.{one_sorted}
 use Rattle.bor_desk.specs.declared.evidence.lines.LinkEvidence.{LinkEvidence}
 use Rattle.bor_desk.specs.declared.evidence.lines.RecordEvidence.{RecordEvidence}
-use Rattle.bor_desk.specs.Evidence.{AreLinkEvidence, AreRecords, IsBridge, IsLeastWay, IsLinkEvidence, IsMentioned, IsWay, as_entity, as_person, as_link, as_subject, as_party, as_same, goal_of, record_evidence, record_node}
+use Rattle.bor_desk.specs.Evidence.{AreLinkEvidence, AreRecords, IsBridge, IsLeastWay, IsLinkEvidence, IsMentioned, IsWay, as_entity, as_person, as_link, as_subject, as_party, as_same, goal_of, record_evidence, record_node, person_evidence}
 use Rattle.bor_desk.specs.Mentioned.{AreMentioned, record_before, records_at}
+use Rattle.bor_records.proofs.OnLinks.Series.{open_are_latest}
+use Rattle.bor_desk.specs.Operations.Sight.{unnumbered}
+use Rattle.bor_desk.proofs.OnOperations.SeenLinks.{open_seen}
+use Rattle.bor_desk.specs.declared.evidence.lines.EntityEvidence.{EntityEvidence}
+use Rattle.bor_desk.specs.declared.refusal.Refusal.TheVariants.{NoEntity}
+use Rattle.bor_desk.specs.Outcomes.{IsEvidenceFound, IsTreeFound}
+use Rattle.bor_desk.specs.Step.{evidence, refused, report}
+use Rattle.bor_desk.specs.Ways.{AreLinked}
 
 -- ---- what is open
 
@@ -46,11 +52,7 @@ IsOpen day seen n = (r : Row) × (open_at day n seen ≡ Some r)
 
 module _ (day : ℤ) (seen : List Row) where
   listed_open : (n : Node) (x : OpenNode) → listed_at (nodes_of day seen) n ≡ Some x → IsOpen day seen n
-  listed_open n x h = go (open_at day n seen) refl (sym (listed_by_key day n seen) ∙ h)
-    where
-      go : (o : Option Row) → open_at day n seen ≡ o → option_and_then node_in o ≡ Some x → IsOpen day seen n
-      go None e k = let no : None ≡ Some x = k in absurd cc
-      go (Some r) e k = (r, e)
+  listed_open n x h = option_and_then_some node_in (open_at day n seen) x (sym (listed_by_key day n seen) ∙ h) (λ r is made. (r, is))
 
   -- something is known of an open node alone
   known_open : (n : Node) → is_some_info (info_in (nodes_of day seen) n) ≡ true → IsOpen day seen n
@@ -64,8 +66,7 @@ module _ (day : ℤ) (seen : List Row) where
   entity_open n h = known_open n (go (info_in (nodes_of day seen) n) h)
     where
       go : (o : Option NodeInfo) → is_entity_info o ≡ true → is_some_info o ≡ true
-      go None k = absurd cc
-      go (Some i) k = refl
+      go o k = grind arith
 
   -- ---- links
 
@@ -75,24 +76,16 @@ module _ (day : ℤ) (seen : List Row) where
     party : is_some_info (info_in (nodes_of day seen) l.party) ≡ true
 
   ends_known : (r : Row) (l : Link) → link_in day (nodes_of day seen) r ≡ Some l → AreKnown l
-  ends_known r l h = by r.statement.details h
+  ends_known r l h = by (link_stated day (series_of r) r.statement.details) h
     where
-      no_link : None ≡ Some l → AreKnown l
-      no_link e = absurd cc
-
-      between : (k : Link) (t : Bool) → (is_entity_info (info_in (nodes_of day seen) k.subject) && is_some_info (info_in (nodes_of day seen) k.party)) ≡ t → cond t (Some k) None ≡ Some l → AreKnown l
-      between k true f e =
-          let p = and_parts (is_entity_info (info_in (nodes_of day seen) k.subject)) (is_some_info (info_in (nodes_of day seen) k.party)) f in
-          subst (λ (z : Link). AreKnown z) (same_Some k l e) (record { subject = p.0; party = p.1 })
-      between k false f e = no_link e
-
-      by : (d : Details) → link_with day (nodes_of day seen) r d ≡ Some l → AreKnown l
-      by (details.Entity kind name identifiers) e = no_link e
-      by (details.Person kind name) e = no_link e
-      by (details.Relationship None party interests) e = no_link e
-      by (details.Relationship (Some subject) None interests) e = no_link e
-      by (details.Relationship (Some subject) (Some party) interests) e =
-          between (record { rec = r.statement.rec; party = beside r party; subject = beside r subject; stake = is_stake day interests; holding = is_holding day interests }) _ refl e
+      by : (o : Option Link) → between_open (nodes_of day seen) o ≡ Some l → AreKnown l
+      by None e = absurd cc
+      by (Some k) e =
+          let subject = is_entity_info (info_in (nodes_of day seen) k.subject) in
+          let party = is_some_info (info_in (nodes_of day seen) k.party) in
+          let made = cond_some (subject && party) k l e in
+          let both = and_parts subject party made.0 in
+          subst (λ (z : Link). AreKnown z) made.1 (record { subject = both.0; party = both.1 })
 
   link_ends : (l : Link) → Contains (links_of day seen) l → AreKnown l
   link_ends l h = let m = links_of_rows day seen l h in ends_known m.row l m.made
@@ -286,3 +279,107 @@ module _ (day : ℤ) (seen : List Row) where
       ∙ ap (λ (ns : List Node). records_at day seen ns)
       (one_sorted reading_cmp reading_total (map record_node xs) (map record_node ys) a.sorted b.sorted (has_node P xs ys a b) (has_node P ys xs b a))
       ∙ sym (by_nodes ys (says_of P ys b))
+
+-- ---- the statements of records on a day, one after the other, by rows with the numbers of their filings
+
+found_seen : (n : Node) (rows : List Row) → find (is_of n) (map unnumbered rows) ≡ option_map unnumbered (find (is_of n) rows)
+found_seen n [] = refl
+found_seen n (r ∷ rows) = grind (arith, found_seen n rows)
+
+open_at_seen : (day : ℤ) (n : Node) (rows : List Row) → open_at day n (map unnumbered rows) ≡ option_map unnumbered (open_at day n rows)
+open_at_seen day n rows =
+    sym (open_are_latest day n (map unnumbered rows)) ∙ ap (λ (rs : List Row). find (is_of n) rs) (open_seen day rows) ∙ found_seen n (open_rows day rows)
+    ∙ ap (λ (o : Option Row). option_map unnumbered o) (open_are_latest day n rows)
+
+-- the number of its filing is no part of what a record says
+said_alike : (o : Option Row) (xs : List RecordEvidence) → record_before (option_map unnumbered o) xs ≡ record_before o xs
+said_alike o xs = grind arith
+
+before-append : (o : Option Row) (xs ys : List RecordEvidence) → record_before o (xs ++ ys) ≡ record_before o xs ++ ys
+before-append o xs ys = grind arith
+
+records-push : (day : ℤ) (rows : List Row) (ns : List Node) (n : Node) → records_at day rows (ns ++ n ∷ []) ≡ records_at day rows ns ++ record_before (open_at day n rows) []
+records-push day rows [] n = refl
+records-push day rows (m ∷ ns) n = ap (λ (xs : List RecordEvidence). record_before (open_at day m rows) xs) (records-push day rows ns n) ∙ before-append (open_at day m rows) (records_at day rows ns) (record_before (open_at day n rows) [])
+
+-- ---- one record more
+
+-- the list that is now told has what the record says, if it is open, and room for as many
+pub record IsTold (o : Option Row) (was now : Vec RecordEvidence Global) : Type 0 where
+  pub said : now.items ≡ was.items ++ record_before o []
+  pub few : length now.items ≤ length was.items + 1
+  pub room : vec_capacity now ≡ vec_capacity was
+
+pub told_open : (o : Option Row) (r : Row) (x : RecordEvidence) (was pushed now : Vec RecordEvidence Global) → o ≡ Some r → x ≡ record_evidence r → pushed.items ≡ was.items ++ x ∷ [] → vec_capacity pushed ≡ vec_capacity was → now ≡ pushed → IsTold o was now
+told_open o r x was pushed now is says more room same = subst (λ (v : Vec RecordEvidence Global). IsTold o was v) (sym same) (record {
+  said = more ∙ ap (λ (y : RecordEvidence). was.items ++ y ∷ []) says ∙ ap (λ (p : Option Row). was.items ++ record_before p []) (sym is);
+  few = let e = ap (λ (xs : List RecordEvidence). length xs) more in omega (arith, length-append was.items (x ∷ []));
+  room = room;
+})
+
+pub told_closed : (o : Option Row) (was now : Vec RecordEvidence Global) → o ≡ None → now ≡ was → IsTold o was now
+told_closed o was now is same = subst (λ (v : Vec RecordEvidence Global). IsTold o was v) (sym same) (record {
+  said = sym (append-nil was.items) ∙ ap (λ (p : Option Row). was.items ++ record_before p []) (sym is);
+  few = omega arith;
+  room = refl;
+})
+
+-- so it goes on with the list of nodes
+pub records_more : (day : ℤ) (rows : List Row) (ns : List Node) (i : ℕ) (n : Node) (o : Option Row) (was now : Vec RecordEvidence Global) → i < length ns → n ≡ get_or ns i n → o ≡ open_at day n rows → was.items ≡ records_at day (map unnumbered rows) (take i ns)
+    → IsTold o was now → now.items ≡ records_at day (map unnumbered rows) (take (i + 1) ns)
+records_more day rows ns i n o was now lt is shown so_far told =
+    told.said
+    ∙ ap (λ (xs : List RecordEvidence). xs ++ record_before o []) so_far
+    ∙ ap (λ (xs : List RecordEvidence). records_at day (map unnumbered rows) (take i ns) ++ xs)
+    (ap (λ (p : Option Row). record_before p []) shown ∙ sym (said_alike (open_at day n rows) []) ∙ ap (λ (p : Option Row). record_before p []) (sym (open_at_seen day n rows)))
+    ∙ sym (records-push day (map unnumbered rows) (take i ns) n)
+    ∙ ap (λ (ms : List Node). records_at day (map unnumbered rows) ms) (ap (λ (m : Node). take i ns ++ m ∷ []) is ∙ sym (take_more ns i n lt))
+
+-- ---- each link's subject is one with where the link leads
+
+chain_linked : (s : Shown) (a e : Node) (ls : List Link) (x : EvidenceLink) → IsChain s a ls e → IsLinkOf ls x → Same s x.link.subject (goal_of e x)
+chain_linked s a e [] x chain h = absurd h
+chain_linked s a e (l ∷ []) x chain h = subst (λ (y : EvidenceLink). Same s y.link.subject (goal_of e y)) (sym h) chain.3
+chain_linked s a e (l ∷ k ∷ ls) x chain (inl h) = subst (λ (y : EvidenceLink). Same s y.link.subject (goal_of e y)) (sym h) chain.3
+chain_linked s a e (l ∷ k ∷ ls) x chain (inr h) = chain_linked s k.party e (k ∷ ls) x chain.5 h
+
+pub linked : (s : Shown) (e : Node) (tree : Evidence) → AreEvidenced s e tree → AreLinked s e tree.links
+linked s e tree evidenced x on = let o = (evidenced.links x).0 on in chain_linked s o.person e o.chain x o.evidence.chain o.is_link
+
+-- ---- one more link
+
+told_more : (s : Shown) (e : Node) (xs : List EvidenceLink) (ts : List LinkEvidence) (x : EvidenceLink) (t : LinkEvidence) → AreLinkEvidence s e xs ts → IsLinkEvidence s e x t → AreLinkEvidence s e (xs ++ x ∷ []) (ts ++ t ∷ [])
+told_more s e [] [] x t h k = (k, tt)
+told_more s e [] (u ∷ us) x t h k = absurd h
+told_more s e (y ∷ ys) [] x t h k = absurd h
+told_more s e (y ∷ ys) (u ∷ us) x t h k = (h.0, told_more s e ys us x t h.1 k)
+
+pub links_more : (s : Shown) (e : Node) (all : List EvidenceLink) (i : ℕ) (told now : List LinkEvidence) (x : EvidenceLink) (t : LinkEvidence) → take (i + 1) all ≡ take i all ++ x ∷ [] → now ≡ told ++ t ∷ []
+    → AreLinkEvidence s e (take i all) told → IsLinkEvidence s e x t → AreLinkEvidence s e (take (i + 1) all) now
+links_more s e all i told now x t more is h k =
+    subst (λ (xs : List EvidenceLink). AreLinkEvidence s e xs now) (sym more)
+    (subst (λ (ts : List LinkEvidence). AreLinkEvidence s e (take i all ++ x ∷ []) ts) (sym is) (told_more s e (take i all) told x t h k))
+
+-- ---- the evidence as a whole
+
+is_entity : (entity : Node) (day : ℤ) (shown : Shown) (b : Bool) → cond b (report entity day shown) (refused NoEntity) ≡ report entity day shown → b ≡ true
+is_entity entity day shown true h = refl
+is_entity entity day shown false h = absurd cc
+
+-- what was found is the answer to why persons are named
+pub evidence_found : (seen : List Row) (entity : Node) (day : ℤ) (tree : Evidence) (lines : List LinkEvidence) (nodes : List Node) (told : EntityEvidence) → IsTreeFound (Ok tree) (shown_of day seen) entity day
+    → (AreLinked (shown_of day seen) entity tree.links → AreLinkEvidence (shown_of day seen) entity tree.links lines) → AreMentioned entity tree lines nodes
+    → told.persons ≡ map person_evidence tree.persons → told.links ≡ lines → told.records ≡ records_at day seen nodes → IsEvidenceFound (Ok told) seen entity day
+evidence_found seen entity day tree lines nodes told found links mentioned persons are_lines records =
+    let there = is_entity entity day (shown_of day seen) (is_entity_info (info_of (shown_of day seen) entity)) found.0 in
+    let are = links (linked (shown_of day seen) entity tree found.1) in (
+      ap (λ (b : Bool). cond b (evidence entity day seen) (refused NoEntity)) there,
+      record {
+        tree = tree;
+        evidenced = found.1;
+        persons = persons;
+        links = subst (λ (ls : List LinkEvidence). AreLinkEvidence (shown_of day seen) entity tree.links ls) (sym are_lines) are;
+        records = subst (λ (ls : List LinkEvidence). AreRecords day seen (IsMentioned entity tree ls) told.records) (sym are_lines)
+            (subst (λ (rs : List RecordEvidence). AreRecords day seen (IsMentioned entity tree lines) rs) (sym records) (records_told day seen entity tree lines nodes there found.1 are mentioned));
+      },
+    )

@@ -1,10 +1,11 @@
 -- The evidence of an entity is one, and names the persons joined.
-use Rattle.std.proofs.Common.{◌≡◌, ℤ, Bool, true, false, Option, List, [], ◌∷◌, map, length, refl, sym, ap, ◌∙◌, subst}
+use Rattle.std.proofs.Common.{◌≡◌, ℤ, Bool, true, false, List, [], ◌∷◌, map, length, refl, sym, ap, ◌∙◌, subst, arith}
 use Rattle.std.specs.Prelude.{if◌then◌else◌, MatchBool}
 use Rattle.std.specs.declared.cmp.Ordering.{Ordering}
-use Rattle.std.specs.declared.cmp.Ordering.TheVariants.{Less, Equal, Greater}
+use Rattle.std.specs.declared.cmp.Ordering.TheVariants.{Equal}
 use Rattle.std.specs.Ordering.{nat_cmp, ordering_reverse, is_le}
 use Rattle.std.specs.Cmp.Lexicographic.{slice_cmp}
+use Rattle.std.specs.FinMap.{slice_cmp-IsAntisymmetric}
 use Rattle.bor_records.specs.declared.row.Row.{Row}
 use Rattle.bor_records.specs.declared.links.node.Node.{Node}
 use Rattle.bor_records.specs.Links.Nodes.{node_cmp, same_node}
@@ -21,51 +22,35 @@ use Rattle.bor_chains.proofs.OneEvidence.{evidence_is_determined, evidence_names
 use Rattle.bor_desk.specs.declared.evidence.lines.EntityEvidence.{EntityEvidence}
 use Rattle.bor_desk.specs.declared.evidence.lines.LinkEvidence.{LinkEvidence}
 use Rattle.bor_desk.specs.declared.evidence.lines.PersonEvidence.{PersonEvidence}
-use Rattle.bor_desk.specs.declared.evidence.lines.RecordEvidence.{RecordEvidence}
 use Rattle.bor_desk.specs.declared.reply.DeskReply.TheVariants as tell
 use Rattle.bor_desk.specs.declared.refusal.Refusal.TheVariants.{NoEntity}
 use Rattle.bor_desk.specs.Evidence.{way_cmp, IsLeastWay, IsBridge, person_evidence, without_first, goal_of, IsLinkEvidence, AreLinkEvidence, IsMentioned, AreRecords, IsEntityEvidence}
 use Rattle.bor_desk.specs.Step.{report, evidence, refused, chains_answer, evidence_answer}
 use Rattle.bor_desk.specs.Outcomes.{IsTold}
 use Rattle.bor_desk.specs.Laws.{AnsweredEvidenceNamesTheJoined}
-use Rattle.bor_desk.proofs.OnEvidence.LeastWays.{way_total}
+use Rattle.bor_desk.proofs.OnEvidence.Ways.{way_total}
 use Rattle.bor_desk.proofs.OnEvidence.Mentions.{one_records}
 
 -- ---- one least way
 
-exact_nodes : (cs ds : List Node) → slice_cmp node_cmp cs ds ≡ Equal → cs ≡ ds
-exact_nodes [] [] h = refl
-exact_nodes [] (d ∷ ds) h = absurd cc
-exact_nodes (c ∷ cs) [] h = absurd cc
-exact_nodes (c ∷ cs) (d ∷ ds) h =
-    let both = parts (node_cmp c d) (slice_cmp node_cmp cs ds) h in
-    ap (λ (x : Node). x ∷ cs) (exact_node c d both.0) ∙ ap (λ (xs : List Node). d ∷ xs) (exact_nodes cs ds both.1)
-
 tied : (o p : Ordering) → o ≡ ordering_reverse p → is_le o ≡ true → is_le p ≡ true → o ≡ Equal
-tied Less Less e f g = absurd cc
-tied Less Equal e f g = absurd cc
-tied Less Greater e f g = absurd cc
-tied Equal p e f g = refl
-tied Greater p e f g = absurd cc
+tied o p e f g = grind arith
 
 one_way : (s : Shown) (a b : Node) (cs ds : List Node) → IsLeastWay s a cs b → IsLeastWay s a ds b → cs ≡ ds
 one_way s a b cs ds h j =
-    exact_nodes cs ds (parts (nat_cmp (length cs) (length ds)) (slice_cmp node_cmp cs ds) (tied (way_cmp cs ds) (way_cmp ds cs) (way_total.antisymm cs ds) (h.least ds j.is_way) (j.least cs h.is_way))).1
+    let same = tied (way_cmp cs ds) (way_cmp ds cs) (way_total.antisymm cs ds) (h.least ds j.is_way) (j.least cs h.is_way) in
+    slice_cmp-IsAntisymmetric exact_node cs ds (parts (nat_cmp (length cs) (length ds)) (slice_cmp node_cmp cs ds) same).1
 
 one_bridge : (s : Shown) (a b : Node) (cs ds : List Node) → IsBridge s a b cs → IsBridge s a b ds → cs ≡ ds
 one_bridge s a b cs ds h j = at (same_node a b) h j
   where
     at : (same : Bool) → MatchBool same (cs ≡ []) (IsLeastWay s a cs b) → MatchBool same (ds ≡ []) (IsLeastWay s a ds b) → cs ≡ ds
-    at true h j = h ∙ sym j
-    at false h j = one_way s a b cs ds h j
+    at same h j = grind (arith, one_way s a b cs ds)
 
 -- ---- the lines of links
 
 link_is : (t u : LinkEvidence) → t.node ≡ u.node → t.next ≡ u.next → t.same ≡ u.same → t ≡ u
-link_is t u p q r =
-    ap (λ (n : Node). let z : LinkEvidence = record { node = n; next = t.next; same = t.same } in z) p
-    ∙ ap (λ (n : Option Node). let z : LinkEvidence = record { node = u.node; next = n; same = t.same } in z) q
-    ∙ ap (λ (cs : List Node). let z : LinkEvidence = record { node = u.node; next = u.next; same = cs } in z) r
+link_is t u p q r = grind arith
 
 one_line : (s : Shown) (entity : Node) (x : EvidenceLink) (t u : LinkEvidence) → IsLinkEvidence s entity x t → IsLinkEvidence s entity x u → t ≡ u
 one_line s entity x t u h j =
@@ -83,10 +68,7 @@ one_lines s entity (x ∷ xs) (t ∷ ts) (u ∷ us) h j =
 -- ---- the evidence
 
 evidence_is : (x y : EntityEvidence) → x.persons ≡ y.persons → x.links ≡ y.links → x.records ≡ y.records → x ≡ y
-evidence_is x y p q r =
-    ap (λ (ps : List PersonEvidence). let z : EntityEvidence = record { persons = ps; links = x.links; records = x.records } in z) p
-    ∙ ap (λ (ls : List LinkEvidence). let z : EntityEvidence = record { persons = y.persons; links = ls; records = x.records } in z) q
-    ∙ ap (λ (rs : List RecordEvidence). let z : EntityEvidence = record { persons = y.persons; links = y.links; records = rs } in z) r
+evidence_is x y p q r = grind arith
 
 pub one_evidence : (seen : List Row) (entity : Node) (day : ℤ) (x y : EntityEvidence) → IsEntityEvidence seen entity day x → IsEntityEvidence seen entity day y → x ≡ y
 one_evidence seen entity day x y a b = evidence_is x y persons links (one_records day seen (IsMentioned entity b.tree y.links) x.records y.records records b.records)

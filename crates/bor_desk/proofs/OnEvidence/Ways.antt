@@ -1,5 +1,5 @@
--- The search for ways by aliases, level by level.
-use Rattle.std.proofs.Common.{◌≡◌, ◌⊎◌, ◌↔◌, ◌+◌, ◌<◌, ◌≤◌, ◌-◌, ◌++◌, ℕ, nat_lt, not, Bool, true, false, cond, Option, Some, None, List, [], ◌∷◌, Contains, IsTrue, length, sym, refl, ap, ◌∙◌, subst, inl, inr, arith, length-append, Vec, Global}
+-- The search for ways by aliases, level by level; and that the way that is read off is the least.
+use Rattle.std.proofs.Common.{◌≡◌, ◌⊎◌, ◌↔◌, ◌+◌, ◌<◌, ◌≤◌, ◌-◌, ◌++◌, ℕ, nat_lt, Bool, true, false, cond, Option, Some, None, List, [], ◌∷◌, Contains, IsTrue, length, sym, refl, ap, ◌∙◌, subst, inl, inr, arith, length-append, Vec, Global, append_assoc, append-nil}
 use Rattle.std.specs.Prelude.{◌==◌, IfSome, IsSome, is_some, slice_index_or}
 use Rattle.std.specs.BTreeMap.{BTreeMap, get}
 use Rattle.std.specs.List.{slice_get}
@@ -10,8 +10,12 @@ use Rattle.std.specs.declared.cmp.Ordering.TheVariants.{Less, Equal, Greater}
 use Rattle.std.proofs.lemmas.Bool.{eqb-true, ltb-true, ltb-false}
 use Rattle.std.proofs.lemmas.Cmp.{tied_itself}
 use Rattle.std.proofs.lemmas.List.Elements.{Contains-append_cases, Contains-append_left, Contains-append_right, Contains-push, Contains-push_cases}
+use Rattle.std.proofs.lemmas.List.{nil_from_length}
 use Rattle.std.proofs.lemmas.List.Sorted.{ranks_by, sorted_far}
 use Rattle.std.proofs.lemmas.Option.{IfSome_then, same_Some, slice_get_within, get_or_from_slice_get, slice_get-get_or}
+use Rattle.std.specs.Option.{option_and_then}
+use Rattle.std.specs.Cmp.{IsTotalOrder, on_total, then_total, nat_cmp_total}
+use Rattle.std.specs.Cmp.Lexicographic.{lists_total}
 use Rattle.bor_records.specs.declared.links.node.Node.{Node}
 use Rattle.bor_records.specs.Links.Nodes.{node_cmp}
 use Rattle.bor_records.specs.Links.Orders.{node_total}
@@ -19,14 +23,15 @@ use Rattle.bor_records.specs.Links.Shown.{Shown}
 use Rattle.bor_records.specs.Links.Aliases.{Alias, Same, IsAliasPath}
 use Rattle.bor_records.specs.Links.Answers.{AreAliases}
 use Rattle.bor_records.proofs.OnLinks.Exact.{exact_node}
-use Rattle.bor_records.proofs.OnLinks.Found.{here, none, cases}
+use Rattle.bor_records.proofs.OnLinks.Found.{here, none, cases, one_of}
 use Rattle.bor_records.proofs.OnLinks.Sames.{alias_turn}
 use Rattle.bor_desk.specs.declared.evidence.kin.Kin.{Kin}
 use Rattle.bor_desk.specs.declared.evidence.ways.Ways.{Ways}
 use Rattle.bor_desk.specs.Kin.{AreTaken, IsKinOf, signed_in, signs_listed}
 use Rattle.bor_desk.specs.Ways.{IsAway, IsNearer, Followers, AreAdded, IsFirstAlias, AreAll, AreFoundFrom, AreKnown, AreOfClass, AreWaysTo}
-use Rattle.bor_desk.proofs.OnEvidence.Kin.{alias_taken, kin_taken, kin_then, taken_alias}
+use Rattle.bor_desk.proofs.OnEvidence.Kin.{alias_taken, kin_taken, kin_then, put_at, put_here, taken_alias}
 use Rattle.bor_register.proofs.OnMemory.Lists.{get_next}
+use Rattle.bor_desk.specs.Evidence.{IsWay, way_cmp, IsLeastWay}
 
 -- ---- what is there
 
@@ -48,8 +53,7 @@ not_some : {X : Type 0} (o : Option X) → o ≡ None → IsSome o → ⊥
 not_some o e h = let v = value o h in not_both o v.0 e v.1
 
 pub not_there : {X : Type 0} (o : Option X) → is_some o ≡ false → o ≡ None
-not_there None h = refl
-not_there (Some x) h = absurd cc
+not_there o h = grind arith
 
 got : (xs : List Node) (x : Node) → Contains xs x → (i : ℕ) × (slice_get xs i ≡ Some x)
 got xs x h = (h.0, slice_get-get_or xs h.0 x h.1 ∙ ap (λ y. Some y) h.2)
@@ -60,56 +64,16 @@ got_is xs i x h = (i, slice_get_within xs i x h, get_or_from_slice_get xs i x x 
 -- ---- one more
 
 pub added_none : (node : Node) (a : Followers) (found : List Node) → AreAdded node [] a a found found
-added_none node a found = record {
-  stays = λ x next e. e;
-  each = λ x next gone is. absurd (not_both (a x) next gone is);
-  every = λ x h. absurd (none x h);
-  told = λ x. (λ h. inl h, λ h. elim h [ inl was ↦ was | inr new ↦ absurd (not_some (a x) new.0 new.1) ]);
-}
-
-equal : (o : Ordering) → is_eq o ≡ true → o ≡ Equal
-equal Less e = absurd cc
-equal Equal e = refl
-equal Greater e = absurd cc
-
--- a value is put at a node, and nowhere else
-module _ (a b : Followers) (x : Node) (next : Option Node) (put : (q : Node) → b q ≡ cond (is_eq (node_cmp x q)) (Some next) (a q)) where
-  at_node : b x ≡ Some next
-  at_node = put x ∙ ap (λ (o : Ordering). cond (is_eq o) (Some next) (a x)) (tied_itself node_total x)
-
-  where_put : (q : Node) → ((x ≡ q) × (b q ≡ Some next)) ⊎ (b q ≡ a q)
-  where_put q = at (is_eq (node_cmp x q)) refl
-    where
-      at : (c : Bool) → is_eq (node_cmp x q) ≡ c → ((x ≡ q) × (b q ≡ Some next)) ⊎ (b q ≡ a q)
-      at true e = inl (exact_node x q (equal (node_cmp x q) e), put q ∙ ap (λ (c : Bool). cond c (Some next) (a q)) e)
-      at false e = inr (put q ∙ ap (λ (c : Bool). cond c (Some next) (a q)) e)
+added_none node a found = grind (arith, none)
 
 pub added_one : (node x : Node) (a b : Followers) (found : List Node) → a x ≡ None → ((q : Node) → b q ≡ cond (is_eq (node_cmp x q)) (Some (Some node)) (a q)) → AreAdded node (x ∷ []) a b found (found ++ x ∷ [])
 added_one node x a b found gone put = record {
-  stays = λ q next e. elim (where_put a b x (Some node) put q) [
-    | inl p ↦ absurd (not_both (a q) next (subst (λ (z : Node). a z ≡ None) p.0 gone) e)
-    | inr s ↦ s ∙ e
-  ];
-  each = λ q next was is. elim (where_put a b x (Some node) put q) [
-    | inl p ↦ (subst (λ (z : Node). Contains (x ∷ []) z) p.0 (Contains-push [] x), same_Some next (Some node) (sym is ∙ p.1))
-    | inr s ↦ absurd (not_both (a q) next was (sym s ∙ is))
-  ];
-  every = λ q h. elim (cases x [] q h) [
-    | inl e ↦ subst (λ (z : Node). IsSome (b z)) e (some (b x) (Some node) (at_node a b x (Some node) put))
-    | inr never ↦ absurd (none q never)
-  ];
+  stays = λ q next e. grind (arith, put_at x q (b q) (Some (Some node)) (a q) (put q), gone);
+  each = λ q next was is. grind (arith, put_at x q (b q) (Some (Some node)) (a q) (put q), Contains-push [] x);
+  every = λ q h. grind (arith, one_of x q h, put_here x (b x) (Some (Some node)) (a x) (put x));
   told = λ q. (
-    λ h. elim (Contains-push_cases found x q h) [
-      | inl was ↦ inl was
-      | inr e ↦ inr (subst (λ (z : Node). a z ≡ None) e gone, subst (λ (z : Node). IsSome (b z)) e (some (b x) (Some node) (at_node a b x (Some node) put)))
-    ],
-    λ h. elim h [
-      | inl was ↦ Contains-append_left found (x ∷ []) q was
-      | inr new ↦ elim (where_put a b x (Some node) put q) [
-        | inl p ↦ subst (λ (z : Node). Contains (found ++ x ∷ []) z) p.0 (Contains-push found x)
-        | inr s ↦ absurd (not_some (b q) (s ∙ new.0) new.1)
-      ]
-    ],
+    λ h. grind (arith, Contains-push_cases found x q h, gone, put_here x (b x) (Some (Some node)) (a x) (put x)),
+    λ h. grind (arith, h, Contains-append_left found (x ∷ []) q, put_at x q (b q) (Some (Some node)) (a q) (put q), Contains-push found x),
   );
 }
 
@@ -126,38 +90,18 @@ before a b stays x gone = elim (either (a x)) [ inl e ↦ e | inr v ↦ absurd (
 pub added_more : (node : Node) (xs ys : List Node) (a b c : Followers) (f g h : List Node) → AreAdded node xs a b f g → AreAdded node ys b c g h → AreAdded node (xs ++ ys) a c f h
 added_more node xs ys a b c f g h one two = record {
   stays = λ x next e. two.stays x next (one.stays x next e);
-  each = λ x next gone is. elim (either (b x)) [
-    | inl e ↦ let t = two.each x next e is in (Contains-append_right xs ys x t.0, t.1)
-    | inr v ↦ let o = one.each x v.0 gone v.1 in (Contains-append_left xs ys x o.0, same_Some next v.0 (sym is ∙ two.stays x v.0 v.1) ∙ o.1)
-  ];
+  each = λ x next gone is. grind (arith, two.each x next, one.each x, two.stays x, Contains-append_left xs ys x, Contains-append_right xs ys x);
   every = λ x on. elim (Contains-append_cases xs ys x on) [ inl p ↦ still b c two.stays x (one.every x p) | inr q ↦ two.every x q ];
-  told = λ x. (
-    λ on. elim ((two.told x).0 on) [
-      | inl p ↦ elim ((one.told x).0 p) [ inl was ↦ inl was | inr new ↦ inr (new.0, still b c two.stays x new.1) ]
-      | inr new ↦ inr (before a b one.stays x new.0, new.1)
-    ],
-    λ on. elim on [
-      | inl was ↦ (two.told x).1 (inl ((one.told x).1 (inl was)))
-      | inr new ↦ elim (either (b x)) [
-        | inl e ↦ (two.told x).1 (inr (e, new.1))
-        | inr v ↦ (two.told x).1 (inl ((one.told x).1 (inr (new.0, some (b x) v.0 v.1))))
-      ]
-    ],
-  );
+  told = λ x. grind (arith, two.told x, one.told x, two.stays x, one.stays x);
 }
 
 -- ---- along a level
 
 pub found_none : (s : Shown) (level : List Node) (a : Followers) → AreFoundFrom s level 0 a a []
-found_none s level a = record {
-  stays = λ x next e. e;
-  each = λ x next gone is. absurd (not_both (a x) next gone is);
-  every = λ i y x lt is alias. absurd (omega (arith, lt));
-  told = λ x. (λ h. absurd (none x h), λ new. absurd (not_some (a x) new.0 new.1));
-}
+found_none s level a = grind (arith, none)
 
-below : (m n : ℕ) → m < n + 1 → (m < n) ⊎ (m ≡ n)
-below m n lt = grind arith
+pub or_less : (m n : ℕ) → m ≤ n → (m ≡ n) ⊎ (m < n)
+or_less m n le = grind arith
 
 -- Each of the nodes that wasn't found before is an alias of y, and each alias of y is one of them, or was found before.
 pub record AreNear (s : Shown) (y : Node) (nodes : List Node) (before : Followers) : Type 0 where
@@ -176,22 +120,8 @@ found_more s level i y nodes a b c f g is_y near one two = record {
         let lt = first.before in
         (o.0, same_Some next v.0 (sym is ∙ two.stays x v.0 v.1) ∙ o.1, record { place = first.place; is = first.is; before = omega (arith, lt); alias = first.alias; first = first.first })
   ];
-  every = λ j z x lt is_z alias. elim (below j i lt) [
-    | inl less ↦ still b c two.stays x (one.every j z x less is_z alias)
-    | inr same ↦
-        let here : z ≡ y = same_Some z y (sym is_z ∙ ap (slice_get level) same ∙ is_y) in
-        elim (near.every x (subst (λ (n : Node). Alias s n x) here alias)) [ inl new ↦ two.every x new | inr was ↦ still b c two.stays x was ]
-  ];
-  told = λ x. (
-    λ on. elim ((two.told x).0 on) [
-      | inl p ↦ let new = (one.told x).0 p in (new.0, still b c two.stays x new.1)
-      | inr new ↦ (before a b one.stays x new.0, new.1)
-    ],
-    λ new. elim (either (b x)) [
-      | inl e ↦ (two.told x).1 (inr (e, new.1))
-      | inr v ↦ (two.told x).1 (inl ((one.told x).1 (new.0, some (b x) v.0 v.1)))
-    ],
-  );
+  every = λ j z x lt is_z alias. grind (arith, one.every j z x, near.every x, two.every x, two.stays x, is_y);
+  told = λ x. grind (arith, two.told x, one.told x, two.stays x, one.stays x);
 }
 
 -- all of a level is the goal alone
@@ -215,12 +145,9 @@ no_steps s goal (c ∷ cs) st e = absurd (omega (arith, e))
 
 pub known_none : (s : Shown) (goal : Node) (a b : Followers) → ((q : Node) → a q ≡ None) → ((q : Node) → b q ≡ cond (is_eq (node_cmp goal q)) (Some None) (a q)) → IsSorted node_cmp (goal ∷ []) → AreKnown s goal 0 b (goal ∷ [])
 known_none s goal a b empty put sorted = record {
-  goal_found = at_node a b goal None put;
-  goal_alone = λ x is. elim (where_put a b goal None put x) [ inl p ↦ sym p.0 | inr e ↦ absurd (not_both (b x) None (e ∙ empty x) is) ];
-  each = λ x y is. elim (where_put a b goal None put x) [
-    | inl p ↦ let no : Some None ≡ Some (Some y) = sym p.1 ∙ is in absurd cc
-    | inr e ↦ absurd (not_both (b x) (Some y) (e ∙ empty x) is)
-  ];
+  goal_found = put_here goal (b goal) (Some None) (a goal) (put goal);
+  goal_alone = λ x is. elim (put_at goal x (b x) (Some None) (a x) (put x)) [ inl p ↦ sym p.0 | inr e ↦ absurd (not_both (b x) None (e ∙ empty x) is) ];
+  each = λ x y is. absurd (grind (arith, put_at goal x (b x) (Some None) (a x) (put x), empty x));
   every = every;
   level_is = λ x. (
     λ h. elim (cases goal [] x h) [ inl e ↦ record { through = []; steps = sym e; long = refl; least = λ cs st. omega arith } | inr never ↦ absurd (none x never) ],
@@ -230,30 +157,22 @@ known_none s goal a b empty put sorted = record {
 }
   where
     every : (x : Node) (cs : List Node) → IsAliasPath s x cs goal → length cs ≤ 0 → IsSome (b x)
-    every x [] st le = subst (λ (z : Node). IsSome (b z)) (sym st) (some (b goal) None (at_node a b goal None put))
+    every x [] st le = subst (λ (z : Node). IsSome (b z)) (sym st) (some (b goal) None (put_here goal (b goal) (Some None) (a goal) (put goal)))
     every x (c ∷ cs) st le = absurd (omega (arith, le))
 
 -- ---- a level more
 
-not_greater : (y z : Node) → is_lt (node_cmp z y) ≡ false → IsTrue (is_le (node_cmp y z))
-not_greater y z h = subst (λ (o : Ordering). IsTrue (is_le o)) (sym (node_total.antisymm y z)) (at (node_cmp z y) h)
-  where
-    at : (o : Ordering) → is_lt o ≡ false → IsTrue (is_le (ordering_reverse o))
-    at Less h = let no : true ≡ false = h in absurd cc
-    at Equal h = refl
-    at Greater h = refl
+not_greater : (o p : Ordering) → o ≡ ordering_reverse p → is_lt p ≡ false → IsTrue (is_le o)
+not_greater o p turned h = grind arith
 
 in_turn : (xs : List Node) → IsSorted node_cmp xs → (i j : ℕ) (y z : Node) → i ≤ j → slice_get xs i ≡ Some y → slice_get xs j ≡ Some z → IsTrue (is_le (node_cmp y z))
-in_turn xs sorted i j y z le one two = not_greater y z
+in_turn xs sorted i j y z le one two = not_greater (node_cmp y z) (node_cmp z y) (node_total.antisymm y z)
     (subst (λ (x : Node). is_lt (node_cmp z x) ≡ false) (get_or_from_slice_get xs i y y one)
     (subst (λ (x : Node). is_lt (node_cmp x (slice_index_or xs i y)) ≡ false) (get_or_from_slice_get xs j z y two)
     (sorted_far (λ x y. is_lt (node_cmp x y)) (ranks_by node_total (λ (x : Node). x)) xs sorted i j y le (slice_get_within xs j z two))))
 
 or_more : (m n : ℕ) → (m ≤ n) ⊎ (n + 1 ≤ m)
 or_more m n = grind arith
-
-or_less : (m n : ℕ) → m ≤ n → (m ≡ n) ⊎ (m + 1 ≤ n)
-or_less m n le = grind arith
 
 -- what is known is so many aliases away
 away : (s : Shown) (goal : Node) (depth : ℕ) (a : Followers) (level : List Node) → AreKnown s goal depth a level → (x : Node) → IsSome (a x) → (n : ℕ) × (n ≤ depth) × IsAway s goal x n
@@ -278,10 +197,7 @@ pub known_more : (s : Shown) (goal : Node) (depth : ℕ) (a b : Followers) (leve
     → ((x : Node) → Contains next x ↔ Contains found x) → IsSorted node_cmp next → AreKnown s goal (depth + 1) b next
 known_more s goal depth a b level found next known from same sorted = record {
   goal_found = from.stays goal None known.goal_found;
-  goal_alone = λ x is. elim (either (a x)) [
-    | inl gone ↦ let f = from.each x None gone is in let no : None ≡ Some f.0 = f.1 in absurd cc
-    | inr v ↦ known.goal_alone x (v.1 ∙ ap (λ y. Some y) (same_Some v.0 None (sym (from.stays x v.0 v.1) ∙ is)))
-  ];
+  goal_alone = λ x is. grind (arith, from.each x None, from.stays x, known.goal_alone x);
   each = each;
   every = every;
   level_is = λ x. (
@@ -350,19 +266,8 @@ known_all s goal depth a level known empty x (c ∷ cs) st = elim (one_more s go
 
 -- ---- the search as a value
 
-pub no_items : (v : Vec Node Global) → v.len ≡ 0 → v.items ≡ []
-no_items v h = at v.items (let same = v.ok.0 in omega (arith, h, same))
-  where
-    at : (xs : List Node) → length xs ≡ 0 → xs ≡ []
-    at [] e = refl
-    at (x ∷ xs) e = absurd (omega (arith, e))
-
-pub is_zero : (n : ℕ) → (n == 0) ≡ true → n ≡ 0
-is_zero n h = eqb-true n 0 h
-
-pub not_not : (b : Bool) → not b ≡ false → b ≡ true
-not_not true h = refl
-not_not false h = absurd cc
+pub no_items : (v : Vec Node Global) → (v.len == 0) ≡ true → v.items ≡ []
+no_items v h = nil_from_length v.items (let same = v.ok.0 in let zero = eqb-true v.len 0 h in omega (arith, zero, same))
 
 pub some_last : (vs : List (Vec Node Global)) → 0 < length vs → slice_get vs (length vs - 1) ≡ None → ⊥
 some_last [] lt h = omega (arith, lt)
@@ -472,11 +377,105 @@ ways_none s goal w level empty one alone none_there put kin = record {
 -- ways are put at a goal
 pub goals_put : (s : Shown) (a b : Node → Option Ways) (key target : Node) (ways : Ways) → key ≡ target → ((q : Node) → b q ≡ cond (is_eq (node_cmp key q)) (Some ways) (a q))
     → ((goal : Node) (w : Ways) → a goal ≡ Some w → AreWaysTo s goal w) → AreWaysTo s target ways → (goal : Node) (w : Ways) → b goal ≡ Some w → AreWaysTo s goal w
-goals_put s a b key target ways same put known to goal w is = at (is_eq (node_cmp key goal)) refl
+goals_put s a b key target ways same put known to goal w is = elim (put_at key goal (b goal) (Some ways) (a goal) (put goal)) [
+  | inl p ↦ subst (λ (n : Node). AreWaysTo s n w) (sym same ∙ p.0) (subst (λ (v : Ways). AreWaysTo s target v) (same_Some ways w (sym p.1 ∙ is)) to)
+  | inr e ↦ known goal w (sym e ∙ is)
+]
+
+-- ---- the order of ways
+
+abbrev IsNotAfter : List Node → List Node → Type 0
+IsNotAfter cs ds = IsTrue (is_le (way_cmp cs ds))
+
+-- a first record that is less
+less_first : (c d : Node) (cs ds : List Node) → length cs ≡ length ds → node_cmp c d ≡ Less → IsNotAfter (c ∷ cs) (d ∷ ds)
+less_first c d cs ds long less = grind arith
+
+-- one first record
+same_first : (c : Node) (cs ds : List Node) → length cs ≡ length ds → IsNotAfter cs ds → IsNotAfter (c ∷ cs) (c ∷ ds)
+same_first c cs ds long h = grind (arith, tied_itself node_total c)
+
+shorter : (cs ds : List Node) → length cs < length ds → IsNotAfter cs ds
+shorter cs ds lt = grind arith
+
+pub way_total : IsTotalOrder way_cmp
+way_total = then_total (on_total (λ (cs : List Node). length cs) nat_cmp_total) (lists_total node_total)
+
+itself : (cs : List Node) → IsNotAfter cs cs
+itself cs = ap (λ (o : Ordering). is_le o) (tied_itself way_total cs)
+
+-- ---- along the least
+
+-- the goal alone
+pub least_goal : (s : Shown) (goal : Node) → IsLeastWay s goal (goal ∷ []) goal
+least_goal s goal = record { is_way = (refl, refl); least = least }
   where
-    at : (c : Bool) → is_eq (node_cmp key goal) ≡ c → AreWaysTo s goal w
-    at true e =
-        let here : key ≡ goal = exact_node key goal (equal (node_cmp key goal) e) in
-        let put_there : b goal ≡ Some ways = put goal ∙ ap (λ (c : Bool). cond c (Some ways) (a goal)) e in
-        subst (λ (n : Node). AreWaysTo s n w) (sym same ∙ here) (subst (λ (v : Ways). AreWaysTo s target v) (same_Some ways w (sym put_there ∙ is)) to)
-    at false e = known goal w (sym (put goal ∙ ap (λ (c : Bool). cond c (Some ways) (a goal)) e) ∙ is)
+    least : (other : List Node) → IsWay s goal other goal → IsNotAfter (goal ∷ []) other
+    least [] w = absurd w
+    least (c ∷ []) w = subst (λ (z : Node). IsNotAfter (goal ∷ []) (z ∷ [])) (sym w.0) (itself (goal ∷ []))
+    least (c ∷ d ∷ ds) w = shorter (goal ∷ []) (c ∷ d ∷ ds) (omega arith)
+
+-- from the first of the nearer ones its least way, from the entity before it the least too
+pub least_more : (s : Shown) (goal x y : Node) (ys : List Node) → IsNearer s goal x y → IsLeastWay s y (y ∷ ys) goal → IsLeastWay s x (x ∷ y ∷ ys) goal
+least_more s goal x y ys nearer way = record { is_way = (refl, (nearer.alias, way.is_way.1)); least = least }
+  where
+    count : ℕ
+    count = nearer.count
+
+    long : length ys ≡ count
+    long =
+        let near = nearer.nearer in
+        let le = no_longer (y ∷ ys) (y ∷ near.through) (way.least (y ∷ near.through) (refl, near.steps)) in
+        let same = near.long in
+        let ge = near.least ys way.is_way.1 in
+        omega (arith, le, same, ge)
+      where
+        no_longer : (cs ds : List Node) → IsNotAfter cs ds → length cs ≤ length ds
+        no_longer cs ds h = grind (arith, h)
+
+    least : (other : List Node) → IsWay s x other goal → IsNotAfter (x ∷ y ∷ ys) other
+    least [] w = absurd w
+    least (c ∷ []) w = absurd (let no = nearer.away.least [] w.1 in omega (arith, no))
+    least (c ∷ d ∷ ds) w = subst (λ (z : Node). IsNotAfter (x ∷ y ∷ ys) (z ∷ d ∷ ds)) (sym w.0) (elim (or_less count (length ds) (let le = nearer.away.least (d ∷ ds) w.1 in omega (arith, le))) [
+      | inr lt ↦ shorter (x ∷ y ∷ ys) (x ∷ d ∷ ds) (omega (arith, lt, long))
+      | inl same ↦ same_first x (y ∷ ys) (d ∷ ds) (omega (arith, same, long)) (second same (node_cmp y d) refl)
+    ])
+      where
+        d_away : count ≡ length ds → IsAway s goal d count
+        d_away same = record { through = ds; steps = w.1.1; long = sym same; least = λ cs st. let le = nearer.away.least (d ∷ cs) (w.1.0, st) in omega (arith, le) }
+
+        second : count ≡ length ds → (o : Ordering) → node_cmp y d ≡ o → IsNotAfter (y ∷ ys) (d ∷ ds)
+        second same Less e = less_first y d ys ds (omega (arith, same, long)) e
+        second same Equal e =
+            let one = exact_node y d e in
+            way.least (d ∷ ds) (sym one, subst (λ (z : Node). IsAliasPath s z ds goal) (sym one) w.1.1)
+        second same Greater e = absurd (let no : false ≡ true = ap (λ (o : Ordering). is_le o) (sym e) ∙ nearer.first d w.1.0 (d_away same) in cc)
+
+-- ---- as it is read off
+
+-- the rest of the way from a node on it gives the whole
+pub record IsOnWay (s : Shown) (goal node at : Node) (way : List Node) : Type 0 where
+  pub rest : (cs : List Node) → IsLeastWay s at (at ∷ cs) goal → IsLeastWay s node (way ++ cs) goal
+
+pub way_goes_on : (s : Shown) (goal node at next : Node) (way : List Node) → IsNearer s goal at next → IsOnWay s goal node at way → IsOnWay s goal node next (way ++ next ∷ [])
+way_goes_on s goal node at next way nearer on = record {
+  rest = λ cs h. subst (λ (ds : List Node). IsLeastWay s node ds goal) (sym (append_assoc way (next ∷ []) cs)) (on.rest (next ∷ cs) (least_more s goal at next cs nearer h));
+}
+
+pub way_ends : (s : Shown) (goal node at : Node) (way : List Node) → at ≡ goal → IsOnWay s goal node at way → IsLeastWay s node way goal
+way_ends s goal node at way here on =
+    subst (λ (ds : List Node). IsLeastWay s node ds goal) (append-nil way)
+    (on.rest [] (subst (λ (z : Node). IsLeastWay s z (z ∷ []) goal) (sym here) (least_goal s goal)))
+
+-- what follows is known
+pub follows_known : (s : Shown) (goal : Node) (depth : ℕ) (a : Followers) (level : List Node) → AreKnown s goal depth a level → (x y : Node) → a x ≡ Some (Some y) → IsNearer s goal x y × IsSome (a y)
+follows_known s goal depth a level known x y is =
+    let k = known.each x y is in
+    let near = (k.0).nearer in
+    (k.0, known.every y near.through near.steps (let long = near.long in let lt = k.1 in omega (arith, long, lt)))
+
+pub followed : (o : Option (Option Node)) (n : Node) → Some n ≡ option_and_then (λ x. x) o → o ≡ Some (Some n)
+followed o n e = grind arith
+
+pub unfollowed : (o : Option (Option Node)) → IsSome o → None ≡ option_and_then (λ x. x) o → o ≡ Some None
+unfollowed o h e = grind arith

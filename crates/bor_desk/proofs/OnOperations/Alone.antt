@@ -1,6 +1,7 @@
 -- An agent sees the same alone, with what the others have published, as in the register.
-use Rattle.std.proofs.Common.{append_assoc, length-append, map, ◌≡◌, ℕ, ◌+◌, ℤ, List, [], ◌∷◌, ◌++◌, length, refl, ◌∙◌, sym, ap, subst, arith, true, false, Bool}
-use Rattle.std.specs.Prelude.{if◌then◌else◌, filter, not, ◌||◌, ◌&&◌, int_le}
+use Rattle.std.proofs.Common.{append_assoc, length-append, map, inl, inr, ◌≡◌, ℕ, ◌+◌, ℤ, List, [], ◌∷◌, ◌++◌, length, refl, ◌∙◌, sym, ap, subst, arith, true, false}
+use Rattle.std.specs.Prelude.{if◌then◌else◌, filter, not}
+use Rattle.std.proofs.lemmas.Bool.{cases_Bool, cond_both, false_from_ne_true, or_parts}
 use Rattle.std.proofs.lemmas.List.{append-nil, map-append}
 use Rattle.std.proofs.lemmas.List.Elements.{filter-append}
 use Rattle.bor_terms.specs.Texts.{is_same, is_below}
@@ -118,24 +119,16 @@ beside_by_agent name day (m ∷ ms) =
     if is_same m.name name then beside_by_agent name day ms else outwards_of day m.name m.filings ++ beside_by_agent name day ms
 
 -- an agent's outward forms are all its own
-beside_own : (agent name : List ℕ) (fs : List AcceptedFiling) (b : Bool) → is_same agent name ≡ b →
-    filter (λ (o : Outward). not (is_same o.agent name)) (map (outward agent) fs) ≡ (if b then [] else map (outward agent) fs)
-beside_own agent name [] true e = refl
-beside_own agent name [] false e = refl
-beside_own agent name (f ∷ fs) true e = rw e (beside_own agent name fs true e)
-beside_own agent name (f ∷ fs) false e = rw e (ap (λ os. outward agent f ∷ os) (beside_own agent name fs false e))
+beside_own : (agent name : List ℕ) (fs : List AcceptedFiling) →
+    filter (λ (o : Outward). not (is_same o.agent name)) (map (outward agent) fs) ≡ (if is_same agent name then [] else map (outward agent) fs)
+beside_own agent name [] = grind arith
+beside_own agent name (f ∷ fs) = grind (arith, beside_own agent name fs)
 
 beside_is : (name : List ℕ) (day : ℤ) (ms : List Member) → published_beside name day ms ≡ beside_by_agent name day ms
 beside_is name day [] = refl
 beside_is name day (m ∷ ms) =
-    filter-append (λ (o : Outward). not (is_same o.agent name)) (outwards_of day m.name m.filings) (published day ms) ∙ by_test (is_same m.name name) refl (beside_is name day ms)
-  where
-    by_test : (b : Bool) → is_same m.name name ≡ b → published_beside name day ms ≡ beside_by_agent name day ms →
-        filter (λ (o : Outward). not (is_same o.agent name)) (outwards_of day m.name m.filings) ++ published_beside name day ms
-        ≡ (if b then beside_by_agent name day ms else outwards_of day m.name m.filings ++ beside_by_agent name day ms)
-    by_test true e rest = ap (λ os. os ++ published_beside name day ms) (beside_own m.name name (filter (is_published day) m.filings) true e) ∙ rest
-    by_test false e rest =
-        ap (λ os. os ++ published_beside name day ms) (beside_own m.name name (filter (is_published day) m.filings) false e) ∙ ap (λ os. outwards_of day m.name m.filings ++ os) rest
+    let apart = filter-append (λ (o : Outward). not (is_same o.agent name)) (outwards_of day m.name m.filings) (published day ms) in
+    grind (arith, apart, beside_own m.name name (filter (is_published day) m.filings), beside_is name day ms)
 
 -- the others' outward forms, one after the other, bring those that have published
 abbrev AreAppended : List ℕ → ℤ → List Member → List Member → Type 0
@@ -143,7 +136,10 @@ AreAppended name day ms before = with_outwards (beside_by_agent name day ms) bef
 
 with_outwards-beside : (name : List ℕ) (day : ℤ) (ms before : List Member) → IsOrdered ms → AreBelow before ms → AreAppended name day ms before
 with_outwards-beside name day [] before ordered below = sym (append-nil before)
-with_outwards-beside name day (m ∷ ms) before ordered below = by_test (is_same m.name name) (λ more. with_outwards-beside name day ms more ordered.1)
+with_outwards-beside name day (m ∷ ms) before ordered below = elim (cases_Bool (is_same m.name name)) [
+  | inl own ↦ rw own (with_outwards-beside name day ms before ordered.1 below.1)
+  | inr other ↦ rw other (agent-beside (filter (is_published day) m.filings) (λ more. with_outwards-beside name day ms more ordered.1))
+]
   where
     agent-beside : (fs : List AcceptedFiling) → ((more : List Member) → AreBelow more ms → AreAppended name day ms more) →
         with_outwards (map (outward m.name) fs ++ beside_by_agent name day ms) before ≡ before ++ with_shown m.name (map (outward m.name) fs) (shown_beside name day ms)
@@ -153,20 +149,10 @@ with_outwards-beside name day (m ∷ ms) before ordered below = by_test (is_same
         with_outwards-agent m.name (f ∷ fs) (beside_by_agent name day ms) before below.0
         ∙ rest (before ++ new ∷ []) (AreBelow-push before new ms below.1 ordered.0) ∙ append_assoc before (new ∷ []) (shown_beside name day ms)
 
-    by_test : (b : Bool) → ((more : List Member) → AreBelow more ms → AreAppended name day ms more) →
-        with_outwards (if b then beside_by_agent name day ms else outwards_of day m.name m.filings ++ beside_by_agent name day ms) before
-        ≡ before ++ (if b then shown_beside name day ms else with_shown m.name (outwards_of day m.name m.filings) (shown_beside name day ms))
-    by_test true rest = rest before below.1
-    by_test false rest = agent-beside (filter (is_published day) m.filings) rest
-
 -- ---- the agent at its place among them
 
 not_below : (a b : List ℕ) → is_below a b ≡ true → is_below b a ≡ false
-not_below a b lt = by_test (is_below b a) refl
-  where
-    by_test : (t : Bool) → is_below b a ≡ t → t ≡ false
-    by_test true gt = let round = below_trans a b a lt gt in let no = below_irrefl a in absurd cc
-    by_test false gt = refl
+not_below a b lt = false_from_ne_true (is_below b a) (λ gt. let round = below_trans a b a lt gt in let no = below_irrefl a in absurd cc)
 
 pub above-not_enrolled : (name : List ℕ) (ms : List Member) → AllAbove name ms → is_enrolled name ms ≡ false
 above-not_enrolled name [] h = refl
@@ -188,12 +174,8 @@ with_member-above new name (o ∷ os) ms lt rest = rw (not_below new.name name l
 -- an agent below all comes first
 with_member-first : (new : Member) (name : List ℕ) (day : ℤ) (ms : List Member) → AllAbove new.name ms → with_member new (shown_beside name day ms) ≡ new ∷ shown_beside name day ms
 with_member-first new name day [] above = refl
-with_member-first new name day (m ∷ ms) above =
-    let after = with_shown m.name (outwards_of day m.name m.filings) (shown_beside name day ms) in
-    elim (is_same m.name name) as (λ b. with_member new (if b then shown_beside name day ms else after) ≡ new ∷ (if b then shown_beside name day ms else after)) [
-      | true ↦ with_member-first new name day ms above.1
-      | false ↦ with_member-above new m.name (outwards_of day m.name m.filings) (shown_beside name day ms) above.0 (with_member-first new name day ms above.1)
-    ]
+with_member-first new name day (m ∷ ms) above = cond_both (is_same m.name name) _ _ (λ ns. with_member new ns ≡ new ∷ ns) (λ own. with_member-first new name day ms above.1)
+    (λ other. with_member-above new m.name (outwards_of day m.name m.filings) (shown_beside name day ms) above.0 (with_member-first new name day ms above.1))
 
 -- the own filings are found again
 pub filings-with_member : (new : Member) (ms : List Member) → filings_of new.name (with_member new ms) ≡ new.filings
@@ -210,13 +192,7 @@ sights mine shown name day (m ∷ ms) = (if is_same m.name name then mine m.name
 -- a number, a key and bytes aren't in an outward form
 outwards_of-filings_from : (name : List ℕ) (day : ℤ) (number : ℕ) (fs : List AcceptedFiling) → outwards_of day name (filings_from number (outwards_of day name fs)) ≡ outwards_of day name fs
 outwards_of-filings_from name day number [] = refl
-outwards_of-filings_from name day number (f ∷ fs) = by_tests f.withdrawn (int_le f.due day) refl (λ n. outwards_of-filings_from name day n fs)
-  where
-    by_tests : (withdrawn due : Bool) → int_le f.due day ≡ due → ((n : ℕ) → outwards_of day name (filings_from n (outwards_of day name fs)) ≡ outwards_of day name fs) →
-        let os = map (outward name) (if not withdrawn && due then f ∷ filter (is_published day) fs else filter (is_published day) fs) in outwards_of day name (filings_from number os) ≡ os
-    by_tests true due e rest = rest number
-    by_tests false false e rest = rest number
-    by_tests false true e rest = rw e (ap (λ os. outward name f ∷ os) (rest (number + 1)))
+outwards_of-filings_from name day number (f ∷ fs) = grind (arith, outwards_of-filings_from name day number fs, outwards_of-filings_from name day (number + 1) fs)
 
 sights-with_shown : {X : Type 0} (mine : List ℕ → List AcceptedFiling → List X) (shown : List Outward → List X) (name other : List ℕ) (day : ℤ) (os : List Outward) (ms : List Member) →
     shown [] ≡ [] → is_same other name ≡ false → outwards_of day other (filings_from 1 os) ≡ os → sights mine shown name day (with_shown other os ms) ≡ shown os ++ sights mine shown name day ms
@@ -226,15 +202,10 @@ sights-with_shown mine shown name other day (o ∷ os) ms none differ same = rw 
 sights-beside : {X : Type 0} (mine : List ℕ → List AcceptedFiling → List X) (shown : List Outward → List X) (name : List ℕ) (day : ℤ) (ms : List Member) →
     shown [] ≡ [] → is_enrolled name ms ≡ false → sights mine shown name day (shown_beside name day ms) ≡ sights mine shown name day ms
 sights-beside mine shown name day [] none absent = refl
-sights-beside mine shown name day (m ∷ ms) none absent = by_test (is_same m.name name) refl absent (sights-beside mine shown name day ms none)
-  where
-    by_test : (b : Bool) → is_same m.name name ≡ b → b || is_enrolled name ms ≡ false → (is_enrolled name ms ≡ false → sights mine shown name day (shown_beside name day ms) ≡ sights mine shown name day ms) →
-        sights mine shown name day (if b then shown_beside name day ms else with_shown m.name (outwards_of day m.name m.filings) (shown_beside name day ms))
-        ≡ (if b then mine m.name m.filings else shown (outwards_of day m.name m.filings)) ++ sights mine shown name day ms
-    by_test true e h rest = absurd cc
-    by_test false e h rest =
-        sights-with_shown mine shown name m.name day (outwards_of day m.name m.filings) (shown_beside name day ms) none e (outwards_of-filings_from m.name day 1 m.filings)
-        ∙ ap (λ xs. shown (outwards_of day m.name m.filings) ++ xs) (rest h)
+sights-beside mine shown name day (m ∷ ms) none absent =
+    let apart = or_parts (is_same m.name name) (is_enrolled name ms) absent in
+    rw apart.0 (sights-with_shown mine shown name m.name day (outwards_of day m.name m.filings) (shown_beside name day ms) none apart.0 (outwards_of-filings_from m.name day 1 m.filings)
+    ∙ ap (λ xs. shown (outwards_of day m.name m.filings) ++ xs) (sights-beside mine shown name day ms none apart.1))
 
 -- the members once the agent, with its own filings, stands among those that have published
 abbrev beside_shown : List ℕ → ℤ → List Member → List Member
@@ -243,33 +214,25 @@ beside_shown name day ms = with_member (member_with name (filings_of name ms)) (
 sights-alone : {X : Type 0} (mine : List ℕ → List AcceptedFiling → List X) (shown : List Outward → List X) (name : List ℕ) (day : ℤ) (ms : List Member) →
     shown [] ≡ [] → IsOrdered ms → is_enrolled name ms ≡ true → sights mine shown name day (beside_shown name day ms) ≡ sights mine shown name day ms
 sights-alone mine shown name day [] none ordered enrolled = absurd cc
-sights-alone mine shown name day (m ∷ ms) none ordered enrolled = by_test (is_same m.name name) refl enrolled (sights-alone mine shown name day ms none ordered.1)
-  where
-    by_test : (b : Bool) → is_same m.name name ≡ b → b || is_enrolled name ms ≡ true →
-        (is_enrolled name ms ≡ true → sights mine shown name day (beside_shown name day ms) ≡ sights mine shown name day ms) →
-        sights mine shown name day (with_member (member_with name (if b then m.filings else filings_of name ms))
-        (if b then shown_beside name day ms else with_shown m.name (outwards_of day m.name m.filings) (shown_beside name day ms)))
-        ≡ (if b then mine m.name m.filings else shown (outwards_of day m.name m.filings)) ++ sights mine shown name day ms
-    by_test true e h rest =
-        let above : AllAbove name ms = subst (λ n. AllAbove n ms) (same_is m.name name e) ordered.0 in
-        ap (sights mine shown name day) (with_member-first (member_with name m.filings) name day ms above)
-        ∙ rw (same_refl name) (ap (λ n. mine n m.filings ++ sights mine shown name day (shown_beside name day ms)) (sym (same_is m.name name e))
-        ∙ ap (λ xs. mine m.name m.filings ++ xs) (sights-beside mine shown name day ms none (above-not_enrolled name ms above)))
-    by_test false e h rest =
-        let new = member_with name (filings_of name ms) in
-        ap (sights mine shown name day) (with_member-below new m.name (outwards_of day m.name m.filings) (shown_beside name day ms) (enrolled-above m.name name ms ordered.0 h))
-        ∙ sights-with_shown mine shown name m.name day (outwards_of day m.name m.filings) (with_member new (shown_beside name day ms)) none e (outwards_of-filings_from m.name day 1 m.filings)
-        ∙ ap (λ xs. shown (outwards_of day m.name m.filings) ++ xs) (rest h)
+sights-alone mine shown name day (m ∷ ms) none ordered enrolled = elim (cases_Bool (is_same m.name name)) [
+  | inl own ↦
+      let above : AllAbove name ms = subst (λ n. AllAbove n ms) (same_is m.name name own) ordered.0 in
+      rw own (ap (sights mine shown name day) (with_member-first (member_with name m.filings) name day ms above)
+      ∙ rw (same_refl name) (ap (λ n. mine n m.filings ++ sights mine shown name day (shown_beside name day ms)) (sym (same_is m.name name own))
+      ∙ ap (λ xs. mine m.name m.filings ++ xs) (sights-beside mine shown name day ms none (above-not_enrolled name ms above))))
+  | inr other ↦
+      let new = member_with name (filings_of name ms) in
+      let later : is_enrolled name ms ≡ true = rw other at enrolled in
+      rw other (ap (sights mine shown name day) (with_member-below new m.name (outwards_of day m.name m.filings) (shown_beside name day ms) (enrolled-above m.name name ms ordered.0 later))
+      ∙ sights-with_shown mine shown name m.name day (outwards_of day m.name m.filings) (with_member new (shown_beside name day ms)) none other (outwards_of-filings_from m.name day 1 m.filings)
+      ∙ ap (λ xs. shown (outwards_of day m.name m.filings) ++ xs) (sights-alone mine shown name day ms none ordered.1 later))
+]
 
 -- ---- what is published, and the statements that are seen
 
 published-sights : (name : List ℕ) (day : ℤ) (ms : List Member) → published day ms ≡ sights (outwards_of day) (λ os. os) name day ms
 published-sights name day [] = refl
-published-sights name day (m ∷ ms) =
-    elim (is_same m.name name) as (λ b. outwards_of day m.name m.filings ++ published day ms ≡ (if b then outwards_of day m.name m.filings else outwards_of day m.name m.filings) ++ sights (outwards_of day) (λ os. os) name day ms) [
-      | true ↦ ap (λ os. outwards_of day m.name m.filings ++ os) (published-sights name day ms)
-      | false ↦ ap (λ os. outwards_of day m.name m.filings ++ os) (published-sights name day ms)
-    ]
+published-sights name day (m ∷ ms) = grind (arith, published-sights name day ms)
 
 -- the rows of outward forms, with no filing's number
 abbrev outward_rows : List Outward → List Row
@@ -292,15 +255,11 @@ own_rows name day agent fs = map unnumbered (visible_in name day agent fs)
 seen-sights : (name : List ℕ) (day : ℤ) (ms : List Member) → map unnumbered (visible name day ms) ≡ sights (own_rows name day) outward_rows name day ms
 seen-sights name day [] = refl
 seen-sights name day (m ∷ ms) =
-    map-append unnumbered (visible_in name day m.name m.filings) (visible name day ms) ∙ by_test (is_same m.name name) refl (seen-sights name day ms)
-  where
-    by_test : (b : Bool) → is_same m.name name ≡ b → map unnumbered (visible name day ms) ≡ sights (own_rows name day) outward_rows name day ms →
-        own_rows name day m.name m.filings ++ map unnumbered (visible name day ms)
-        ≡ (if b then own_rows name day m.name m.filings else outward_rows (outwards_of day m.name m.filings)) ++ sights (own_rows name day) outward_rows name day ms
-    by_test true e rest = ap (λ rows. own_rows name day m.name m.filings ++ rows) rest
-    by_test false e rest =
-        ap (λ b. map unnumbered (rows_in m.name (filter (λ f. if b then not f.withdrawn else is_published day f) m.filings)) ++ map unnumbered (visible name day ms)) (same_sym name m.name ∙ e)
-        ∙ rw (unnumbered-rows_in m.name (filter (is_published day) m.filings), rest) refl
+    map-append unnumbered (visible_in name day m.name m.filings) (visible name day ms) ∙ elim (cases_Bool (is_same m.name name)) [
+      | inl own ↦ rw own (ap (λ rows. own_rows name day m.name m.filings ++ rows) (seen-sights name day ms))
+      | inr other ↦ rw other (ap (λ b. map unnumbered (rows_in m.name (filter (λ f. if b then not f.withdrawn else is_published day f) m.filings)) ++ map unnumbered (visible name day ms)) (same_sym name m.name ∙ other)
+          ∙ rw (unnumbered-rows_in m.name (filter (is_published day) m.filings), seen-sights name day ms) refl)
+    ]
 
 -- ---- the sight
 
@@ -318,3 +277,5 @@ sight-alone r name legal enrolled =
     let others = ap (λ os. with_outwards os []) (beside_is name r.day r.members) ∙ with_outwards-beside name r.day r.members [] legal.names (AreBelow-none r.members) in
     let own = filings-with_member (member_with name (filings_of name r.members)) (shown_beside name r.day r.members) in
     rw (others, own, published-alone name r.day r.members legal.names enrolled, seen-alone name r.day r.members legal.names enrolled) refl
+
+pub ruleset alone_rules = (sight-alone)

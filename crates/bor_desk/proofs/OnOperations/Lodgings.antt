@@ -1,7 +1,7 @@
 -- The refusals of a lodging, and the register after a refused one.
 use Rattle.std.proofs.Common.{◌≡◌, ℕ, ℤ, ◌+◌, ◌<◌, subst, List, [], ◌∷◌, ◌++◌, length, take, drop, get_or, set, map, true, false, Result, Ok, Err, refl, ◌∙◌, sym, ap, append_assoc, arith}
-use Rattle.std.specs.Prelude.{◌≢◌, ◌%◌, ◌^◌, Some, Bool, nat_le, int_lt, if◌then◌else◌}
-use Rattle.std.proofs.lemmas.Bool.{leb-false}
+use Rattle.std.specs.Prelude.{◌≢◌, ◌%◌, ◌^◌, Some, nat_le}
+use Rattle.std.proofs.lemmas.Bool.{false_from_ne_true, leb-false}
 use Rattle.std.proofs.lemmas.List.{take_more_set, get_or_default, get_or-set_same, drop_more, drop-set-lt, map-append}
 use Rattle.bods_read.specs.declared.statement.Statement.{Statement}
 use Rattle.bods_read.specs.declared.statement.Status.{Status}
@@ -11,12 +11,12 @@ use Rattle.bor_records.specs.declared.fault.RecordFault.{RecordFault}
 use Rattle.bor_records.specs.Admission.{Live, last_of, refusals, settled_status, unless_refused, admission}
 use Rattle.bor_records.specs.Settling.{Refusal, by_record, PlacedRefusal, has_id, verdict, as_settled, as_live, ahead, settled_then, settled_from, settled}
 use Rattle.bor_desk.specs.declared.operations.fault.LodgeFault.{LodgeFault}
-use Rattle.bor_desk.specs.declared.operations.fault.LodgeFault.TheVariants.{FilingsFull, DuePast, StatementTwice, Record}
+use Rattle.bor_desk.specs.declared.operations.fault.LodgeFault.TheVariants.{StatementTwice, Record}
 use Rattle.bor_register.specs.declared.filing.AcceptedFiling.{AcceptedFiling}
 use Rattle.bor_register.specs.Register.{Register, filings_of, filing_keyed}
 use Rattle.bor_register.specs.Live.{accepted, live_of}
 use Rattle.bor_desk.specs.Operations.Sight.{Sight}
-use Rattle.bor_desk.specs.Operations.Lodging.{lodge_fault_at, told_verdict, told_settled, settled_reading, as_read, repeated, filing_of, addition, lodge_step}
+use Rattle.bor_desk.specs.Operations.Lodging.{told_verdict, told_settled, settled_reading, as_read, repeated, addition, lodge_step}
 use Rattle.bor_desk.specs.Operations.Outcomes.{of_lodging, IsOutcome, Refuses, IsDone}
 use Rattle.bor_desk.specs.declared.operations.lodging.Lodged.{Lodged}
 use Rattle.bor_register.specs.Limits.{filings_limit}
@@ -33,12 +33,10 @@ pub verdict-taken : (place : ℕ) (live : List Live) (s : Statement) (due : ℤ)
 verdict-taken place live s due taken = rw taken refl
 
 by_rules-ok : (rs : List RecordFault) (x st : Status) (place : ℕ) → unless_refused rs x ≡ Ok st → told_verdict place (unless_refused (map by_record rs) x) ≡ Ok st
-by_rules-ok [] x st place h = ap (λ (y : Status). Ok y) cc
-by_rules-ok (r ∷ rs) x st place h = absurd cc
+by_rules-ok rs x st place h = grind arith
 
 by_rules-err : (rs : List RecordFault) (x : Status) (f : RecordFault) (place : ℕ) → unless_refused rs x ≡ Err f → told_verdict place (unless_refused (map by_record rs) x) ≡ Err (Record place f)
-by_rules-err [] x f place h = absurd cc
-by_rules-err (r ∷ rs) x f place h = ap (λ (y : RecordFault). Err (Record place y)) cc
+by_rules-err rs x f place h = grind arith
 
 pub verdict-ok : (place : ℕ) (live : List Live) (s : Statement) (due : ℤ) (st : Status) → has_id s.id live ≡ false → admission (last_of s.declaration s.rec live) s due ≡ Ok st → told_verdict place (verdict live s due) ≡ Ok st
 verdict-ok place live s due st free h = rw free (by_rules-ok (refusals (last_of s.declaration s.rec live) s due) (settled_status (last_of s.declaration s.rec live) s.status) st place h)
@@ -60,12 +58,10 @@ abbrev pub so_far : List Live → ℤ → List Statement → ℕ → Result (Lis
 so_far live due ss i = behind (take i ss) (settled_from (i + 1) (live ++ map (as_live due) (take i ss)) due (drop i ss))
 
 behind-ahead : (front : List Statement) (s : Statement) (x : Result (List Statement) PlacedRefusal) → behind front (ahead s x) ≡ behind (front ++ s ∷ []) x
-behind-ahead front s (Ok ss) = ap (λ (ys : List Statement). Ok ys) (sym (append_assoc front (s ∷ []) ss))
-behind-ahead front s (Err e) = refl
+behind-ahead front s x = grind (arith, append_assoc {A = Statement})
 
 verdict_is : (place : ℕ) (v : Result Status Refusal) (st : Status) → told_verdict place v ≡ Ok st → v ≡ Ok st
-verdict_is place (Ok x) st h = cc
-verdict_is place (Err w) st h = absurd cc
+verdict_is place v st h = grind arith
 
 live-more : (live : List Live) (due : ℤ) (front : List Statement) (s : Statement) → (live ++ map (as_live due) front) ++ as_live due s ∷ [] ≡ live ++ map (as_live due) (front ++ s ∷ [])
 live-more live due front s = append_assoc live (map (as_live due) front) (as_live due s ∷ []) ∙ ap (λ ls. live ++ ls) (sym (map-append (as_live due) front (s ∷ [])))
@@ -97,8 +93,7 @@ live_so_far due ss i s d lt =
 
 refused_is : (e : LodgeFault) (front : List Statement) (place : ℕ) (s : Statement) (v : Result Status Refusal) (rest : Statement → Result (List Statement) PlacedRefusal) →
     told_verdict place v ≡ Err e → told_settled (behind front (settled_then place s v rest)) ≡ Err e
-refused_is e front place s (Ok st) rest h = absurd cc
-refused_is e front place s (Err w) rest h = let same : lodge_fault_at place w ≡ e = cc in ap (λ (x : LodgeFault). Err x) same
+refused_is e front place s v rest h = grind arith
 
 refused_then : (e : LodgeFault) (front : List Statement) (place : ℕ) (s : Statement) (v : Result Status Refusal) (rest : Statement → Result (List Statement) PlacedRefusal) →
     Refuses of_lodging e (told_verdict place v) → Refuses of_lodging e (told_settled (behind front (settled_then place s v rest)))
@@ -115,16 +110,14 @@ so_far-refused e live due ss i place d lt at h =
 -- ---- a file that isn't read
 
 unread_is : (e : LodgeFault) (live : List Live) (due : ℤ) (file : Result (List Statement) FileFault) → as_read file ≡ Err e → settled_reading live due file ≡ Err e
-unread_is e live due (Ok ss) h = absurd cc
-unread_is e live due (Err g) h = h
+unread_is e live due file h = grind arith
 
 -- a file that isn't read refuses the lodging
 pub refuses-unread : (e : LodgeFault) (live : List Live) (due : ℤ) (file : Result (List Statement) FileFault) → Refuses of_lodging e (as_read file) → Refuses of_lodging e (settled_reading live due file)
 refuses-unread e live due file h = unless_store (of_lodging e) _ _ (unread_is e live due file) h
 
 pub settled-read : (live : List Live) (due : ℤ) (ss : List Statement) (file : Result (List Statement) FileFault) → as_read file ≡ Ok ss → settled_reading live due file ≡ told_settled (settled live due ss)
-settled-read live due ss (Ok s) h = ap (λ (x : List Statement). told_settled (settled live due x)) cc
-settled-read live due ss (Err f) h = absurd cc
+settled-read live due ss file h = grind arith
 
 pub ruleset reading_rules = (settled-read)
 
@@ -146,24 +139,9 @@ repeat_outcome (Err e) shown r name key due bytes f found h is =
 
 -- an agent that adds a filing has room for it
 pub addition_room : (s : Sight) (key : List ℕ) (due : ℤ) (bytes : List ℕ) (f : AcceptedFiling) → addition s key due bytes ≡ Ok f → length s.own < filings_limit
-addition_room s key due bytes f h = by_test (nat_le filings_limit (length s.own)) _ refl h
-  where
-    by_test : (full : Bool) (rest : Result AcceptedFiling LodgeFault) → nat_le filings_limit (length s.own) ≡ full → (if full then Err FilingsFull else rest) ≡ Ok f → length s.own < filings_limit
-    by_test true rest e told = absurd cc
-    by_test false rest e told = leb-false filings_limit (length s.own) e
+addition_room s key due bytes f h = leb-false filings_limit (length s.own) (false_from_ne_true (nat_le filings_limit (length s.own)) (λ full. absurd (let no = rw full at h in cc)))
 
 -- what it adds has the statements of the file, settled, and is its next filing
 pub addition_is : (s : Sight) (key : List ℕ) (due : ℤ) (bytes : List ℕ) (f : AcceptedFiling) → addition s key due bytes ≡ Ok f →
     (settled_reading (live_of s.own) due (reading bytes) ≡ Ok f.statements) × (f ≡ accepted s.own key due bytes f.statements)
-addition_is s key due bytes f h = by_tests (nat_le filings_limit (length s.own)) (int_lt due s.day) (settled_reading (live_of s.own) due (reading bytes)) h
-  where
-    by_tests : (full past : Bool) (read : Result (List Statement) LodgeFault) →
-        (if full then Err FilingsFull else (if past then Err DuePast else filing_of s.own key due bytes read)) ≡ Ok f →
-        (read ≡ Ok f.statements) × (f ≡ accepted s.own key due bytes f.statements)
-    by_tests true past read told = absurd cc
-    by_tests false true read told = absurd cc
-    by_tests false false (Err fault) told = absurd cc
-    by_tests false false (Ok ss) told =
-        let same : accepted s.own key due bytes ss ≡ f = cc in
-        let statements = ap (λ (g : AcceptedFiling). g.statements) same in
-        (ap (λ (xs : List Statement). Ok xs) statements, sym same ∙ ap (accepted s.own key due bytes) statements)
+addition_is s key due bytes f h = grind arith

@@ -1,8 +1,8 @@
 -- A lodging that adds a filing adds the journal's next entry.
-use Rattle.std.proofs.Common.{◌≡◌, ℕ, ℤ, List, [], ◌∷◌, ◌++◌, Bool, true, false, Result, Ok, Err, refl, ◌∙◌, sym, ap, subst}
-use Rattle.std.specs.Prelude.{Option, Some, None, IsSome, ◌&&◌, if◌then◌else◌}
-use Rattle.std.specs.Ordering.{int_eq}
-use Rattle.bor_terms.specs.Texts.{is_same, is_below}
+use Rattle.std.proofs.Common.{◌≡◌, ℕ, ℤ, List, [], ◌∷◌, ◌++◌, Bool, true, false, Result, Ok, Err, refl, ◌∙◌, sym, ap, subst, inl, inr, arith}
+use Rattle.std.specs.Prelude.{Option, Some, None, IsSome, if◌then◌else◌}
+use Rattle.std.proofs.lemmas.Bool.{cases_Bool}
+use Rattle.bor_terms.specs.Texts.{is_same}
 use Rattle.bor_terms.proofs.Texts.{same_is, same_refl, same_sym, below_differs}
 use Rattle.bor_register.specs.declared.member.Member.{Member}
 use Rattle.bor_register.specs.declared.filing.AcceptedFiling.{AcceptedFiling}
@@ -11,10 +11,9 @@ use Rattle.bor_register.specs.Live.{live_of, accepted}
 use Rattle.bor_register.specs.Journal.{Agent, JournalEntry, Journal, token_of, entries_of, members_from, register_of, AreNamedOnce, AreOfAgents, IsInOrder}
 use Rattle.bor_register.proofs.Journals.{filings_stay}
 use Rattle.bor_desk.specs.declared.operations.fault.LodgeFault.{LodgeFault}
-use Rattle.bor_desk.specs.declared.operations.fault.LodgeFault.TheVariants.{KeyReused}
 use Rattle.bor_desk.specs.declared.operations.lodging.Lodged.{Lodged}
 use Rattle.bor_desk.specs.Operations.Sight.{Sight, sight_of}
-use Rattle.bor_desk.specs.Operations.Lodging.{told_of, told_added, addition, lodging_at, own_lodged_at, settled_reading, lodge_step}
+use Rattle.bor_desk.specs.Operations.Lodging.{repeated, told_of, told_added, addition, lodging_at, own_lodged_at, settled_reading, lodge_step}
 use Rattle.bods_read.specs.File.{reading}
 use Rattle.bor_desk.specs.Operations.Laws.{IsNextEntry}
 use Rattle.bor_desk.proofs.OnOperations.Lodgings.{addition_is}
@@ -27,14 +26,13 @@ record IsAdded (s : Sight) (key : List ℕ) (due : ℤ) (bytes : List ℕ) (told
   is_told : told_of true s.day f ≡ told
   behind : own ≡ s.own ++ f ∷ []
 
-not_repeated : (day due : ℤ) (bytes : List ℕ) (f : AcceptedFiling) (told : Lodged) (b : Bool) → (if b then Ok (told_of false day f) else Err KeyReused) ≡ Ok told → told.fresh ≡ false
-not_repeated day due bytes f told true h = let same : told_of false day f ≡ told = cc in sym (ap (λ (l : Lodged). l.fresh) same)
-not_repeated day due bytes f told false h = absurd cc
+not_repeated : (day due : ℤ) (bytes : List ℕ) (f : AcceptedFiling) (told : Lodged) → repeated day due bytes f ≡ Ok told → told.fresh ≡ false
+not_repeated day due bytes f told h = grind arith
 
 added_by : (s : Sight) (key : List ℕ) (due : ℤ) (bytes : List ℕ) (told : Lodged) (at : Option AcceptedFiling) → lodging_at s key due bytes at ≡ Ok told → told.fresh ≡ true →
     (f : AcceptedFiling) × IsAdded s key due bytes told (own_lodged_at s key due bytes at) f
 added_by s key due bytes told (Some f) h new =
-    let old = not_repeated s.day due bytes f told (int_eq f.due due && is_same f.bytes bytes) h in
+    let old = not_repeated s.day due bytes f told h in
     absurd cc
 added_by s key due bytes told None h new = by_addition (addition s key due bytes) refl h
   where
@@ -47,18 +45,8 @@ added_by s key due bytes told None h new = by_addition (addition s key due bytes
 
 entries_of-push : (name other : List ℕ) (f : AcceptedFiling) (entries : List JournalEntry) (b : Bool) → is_same name other ≡ b →
     entries_of other (entries ++ record { agent = name; filing = f } ∷ []) ≡ (if b then entries_of other entries ++ f ∷ [] else entries_of other entries)
-entries_of-push name other f [] true e = rw e refl
-entries_of-push name other f [] false e = rw e refl
-entries_of-push name other f (x ∷ xs) true e =
-    elim (is_same x.agent other) as (λ c. (if c then x.filing ∷ entries_of other (xs ++ record { agent = name; filing = f } ∷ []) else entries_of other (xs ++ record { agent = name; filing = f } ∷ [])) ≡ (if c then x.filing ∷ entries_of other xs else entries_of other xs) ++ f ∷ []) [
-      | true ↦ ap (λ fs. x.filing ∷ fs) (entries_of-push name other f xs true e)
-      | false ↦ entries_of-push name other f xs true e
-    ]
-entries_of-push name other f (x ∷ xs) false e =
-    elim (is_same x.agent other) as (λ c. (if c then x.filing ∷ entries_of other (xs ++ record { agent = name; filing = f } ∷ []) else entries_of other (xs ++ record { agent = name; filing = f } ∷ [])) ≡ (if c then x.filing ∷ entries_of other xs else entries_of other xs)) [
-      | true ↦ ap (λ fs. x.filing ∷ fs) (entries_of-push name other f xs false e)
-      | false ↦ entries_of-push name other f xs false e
-    ]
+entries_of-push name other f [] b e = grind arith
+entries_of-push name other f (x ∷ xs) b e = grind (arith, entries_of-push name other f xs b e)
 
 of_agents-push : (name : List ℕ) (f : AcceptedFiling) (agents : List Agent) (entries : List JournalEntry) → IsSome (token_of name agents) → AreOfAgents agents entries →
     AreOfAgents agents (entries ++ record { agent = name; filing = f } ∷ [])
@@ -69,33 +57,17 @@ of_agents-push name f agents (x ∷ xs) enrolled h = (h.0, of_agents-push name f
 
 with_filings-own : (new : Member) (fs : List AcceptedFiling) (ms : List Member) → with_filings new.name fs (with_member new ms) ≡ with_member (record new { filings = fs }) ms
 with_filings-own new fs [] = rw (same_refl new.name) refl
-with_filings-own new fs (m ∷ ms) = by_place (is_below m.name new.name) refl (with_filings-own new fs ms)
-  where
-    by_place : (b : Bool) → is_below m.name new.name ≡ b → with_filings new.name fs (with_member new ms) ≡ with_member (record new { filings = fs }) ms →
-        with_filings new.name fs (if b then m ∷ with_member new ms else new ∷ m ∷ ms) ≡ (if b then m ∷ with_member (record new { filings = fs }) ms else record new { filings = fs } ∷ m ∷ ms)
-    by_place true lt rest = rw (below_differs m.name new.name lt) (ap (λ ns. m ∷ ns) rest)
-    by_place false lt rest = rw (same_refl new.name) refl
+with_filings-own new fs (m ∷ ms) = grind (arith, below_differs m.name new.name, same_refl new.name, with_filings-own new fs ms)
 
 with_filings-other : (new : Member) (name : List ℕ) (fs : List AcceptedFiling) (ms : List Member) → is_same new.name name ≡ false →
     with_filings name fs (with_member new ms) ≡ with_member new (with_filings name fs ms)
 with_filings-other new name fs [] other = rw other refl
-with_filings-other new name fs (m ∷ ms) other = by_tests (is_below m.name new.name) (is_same m.name name) refl refl (with_filings-other new name fs ms other)
-  where
-    by_tests : (b c : Bool) → is_below m.name new.name ≡ b → is_same m.name name ≡ c → with_filings name fs (with_member new ms) ≡ with_member new (with_filings name fs ms) →
-        with_filings name fs (if b then m ∷ with_member new ms else new ∷ m ∷ ms) ≡ with_member new (if c then record m { filings = fs } ∷ ms else m ∷ with_filings name fs ms)
-    by_tests true true lt is rest = rw (is, lt) refl
-    by_tests true false lt is rest = rw (is, lt) (ap (λ ns. m ∷ ns) rest)
-    by_tests false true lt is rest = rw (other, is, lt) refl
-    by_tests false false lt is rest = rw (other, is, lt) refl
+with_filings-other new name fs (m ∷ ms) other = grind (arith, with_filings-other new name fs ms other)
 
 -- ---- the members of a journal with one more entry
 
 absent : (name : List ℕ) (a : Agent) (rest : List Agent) → token_of name (a ∷ rest) ≡ None → (is_same a.name name ≡ false) × (token_of name rest ≡ None)
-absent name a rest h = by_test (is_same a.name name) refl
-  where
-    by_test : (b : Bool) → is_same a.name name ≡ b → (is_same a.name name ≡ false) × (token_of name rest ≡ None)
-    by_test true e = absurd (let no = rw e at h in cc)
-    by_test false e = (e, rw e at h)
+absent name a rest h = grind arith
 
 -- the agent's next filing is no other agent's
 members-others : (name : List ℕ) (f : AcceptedFiling) (agents : List Agent) (entries : List JournalEntry) → token_of name agents ≡ None →
@@ -114,17 +86,15 @@ members-own f a rest entries none =
 members-push : (name : List ℕ) (f : AcceptedFiling) (agents : List Agent) (entries : List JournalEntry) → AreNamedOnce agents →
     with_filings name (entries_of name entries ++ f ∷ []) (members_from agents entries) ≡ members_from agents (entries ++ record { agent = name; filing = f } ∷ [])
 members-push name f [] entries once = refl
-members-push name f (a ∷ rest) entries once = by_test (is_same a.name name) refl (members-push name f rest entries once.1)
-  where
-    by_test : (b : Bool) → is_same a.name name ≡ b → with_filings name (entries_of name entries ++ f ∷ []) (members_from rest entries) ≡ members_from rest (entries ++ record { agent = name; filing = f } ∷ []) →
-        with_filings name (entries_of name entries ++ f ∷ []) (members_from (a ∷ rest) entries) ≡ members_from (a ∷ rest) (entries ++ record { agent = name; filing = f } ∷ [])
-    by_test true e tail =
-        subst (λ n. with_filings n (entries_of n entries ++ f ∷ []) (members_from (a ∷ rest) entries) ≡ members_from (a ∷ rest) (entries ++ record { agent = n; filing = f } ∷ [])) (same_is a.name name e)
-        (members-own f a rest entries once.0)
-    by_test false e tail =
-        with_filings-other (record { name = a.name; token = a.token; filings = entries_of a.name entries }) name (entries_of name entries ++ f ∷ []) (members_from rest entries) e
-        ∙ ap (with_member (record { name = a.name; token = a.token; filings = entries_of a.name entries })) tail
-        ∙ ap (λ fs. with_member (record { name = a.name; token = a.token; filings = fs }) (members_from rest (entries ++ record { agent = name; filing = f } ∷ []))) (sym (entries_of-push name a.name f entries false (same_sym name a.name ∙ e)))
+members-push name f (a ∷ rest) entries once = elim (cases_Bool (is_same a.name name)) [
+  | inl e ↦
+      subst (λ n. with_filings n (entries_of n entries ++ f ∷ []) (members_from (a ∷ rest) entries) ≡ members_from (a ∷ rest) (entries ++ record { agent = n; filing = f } ∷ [])) (same_is a.name name e)
+      (members-own f a rest entries once.0)
+  | inr e ↦
+      with_filings-other (record { name = a.name; token = a.token; filings = entries_of a.name entries }) name (entries_of name entries ++ f ∷ []) (members_from rest entries) e
+      ∙ ap (with_member (record { name = a.name; token = a.token; filings = entries_of a.name entries })) (members-push name f rest entries once.1)
+      ∙ ap (λ fs. with_member (record { name = a.name; token = a.token; filings = fs }) (members_from rest (entries ++ record { agent = name; filing = f } ∷ []))) (sym (entries_of-push name a.name f entries false (same_sym name a.name ∙ e)))
+]
 
 -- ---- the law
 

@@ -25,11 +25,11 @@ refused store fault shown r o h is =
     by_store (store fault) _ _ (λ f. Unit {0}) (λ f. shown r) (λ both. (both.0, subst shown (sym both.1) is)) (λ f x. is) h
 
 -- where the step leaves a legal register legal, what is left is legal
+pub left_by : (of : Option StoreFault) (shown : Register → Type 0) (r after : Register) → ByStore of (shown after) (λ f. shown r) → IsLegal r → IsLegal after → (left : Register) × shown left × IsLegal left
+left_by None shown r after h was is = (after, h, is)
+left_by (Some f) shown r after h was is = (r, h, was)
+
 pub left_legal : {A E : Type 0} (store : E → Option StoreFault) (result : Result A E) (shown : Register → Type 0) (r : Register) (o : Outcome (Result A E)) →
     IsOutcome store result shown r o → IsLegal r → IsLegal o.register → (left : Register) × shown left × IsLegal left
 left_legal store (Ok answer) shown r o h was is = (o.register, h.1, is)
-left_legal store (Err fault) shown r o h was is = by_fault (store fault) h
-  where
-    by_fault : (of : Option StoreFault) → ByStore of ((o.answer ≡ Err fault) × shown o.register) (λ f. shown r) → (left : Register) × shown left × IsLegal left
-    by_fault None h = (o.register, h.1, is)
-    by_fault (Some f) h = (r, h, was)
+left_legal store (Err fault) shown r o h was is = left_by (store fault) shown r o.register (by_store (store fault) _ _ (λ f. shown r) (λ f. shown r) (λ both. both.1) (λ f kept. kept) h) was is

@@ -1,15 +1,13 @@
 -- Nodes and links are the same of rows with the numbers of their filings and without.
-use Rattle.std.proofs.Common.{◌≡◌, ◌||◌, ◌&&◌, not, ℤ, Bool, true, false, cond, Option, Some, None, List, [], ◌∷◌, map, refl, ap, ◌∙◌}
+use Rattle.std.proofs.Common.{◌≡◌, ◌||◌, ◌&&◌, ℤ, Bool, Option, List, [], ◌∷◌, map, refl, ap, ◌∙◌, arith}
 use Rattle.std.specs.List.{filter_map, cons_option, list_any}
 use Rattle.bods_read.specs.declared.details.Details.{Details}
-use Rattle.bods_read.specs.declared.details.Details.TheVariants as details
 use Rattle.bor_records.specs.declared.row.Row.{Row}
-use Rattle.bor_records.specs.Admission.{is_closed}
 use Rattle.bor_records.specs.Snapshot.{is_dated}
 use Rattle.bor_records.specs.declared.links.node.Node.{Node}
 use Rattle.bor_records.specs.declared.links.node.OpenNode.{OpenNode}
 use Rattle.bor_records.specs.declared.links.node.Link.{Link}
-use Rattle.bor_records.specs.OpenRows.{is_open_before, open_rows}
+use Rattle.bor_records.specs.OpenRows.{open_rows}
 use Rattle.bor_records.specs.Links.Series.{series_of, is_of}
 use Rattle.bor_records.specs.Links.Shown.{Shown}
 use Rattle.bor_records.specs.Links.Rows.{node_in, nodes_of, link_with, link_in, links_of, shown_of}
@@ -23,14 +21,7 @@ later_seen day n (r ∷ rows) = ap (λ (b : Bool). (is_of n r && is_dated day r)
 
 pub open_seen : (day : ℤ) (rows : List Row) → open_rows day (map unnumbered rows) ≡ map unnumbered (open_rows day rows)
 open_seen day [] = refl
-open_seen day (r ∷ rows) =
-    ap (λ (b : Bool). cond (is_dated day r && not (is_closed r.status) && not b) (unnumbered r ∷ open_rows day (map unnumbered rows)) (open_rows day (map unnumbered rows))) (later_seen day (series_of r) rows)
-    ∙ ap (λ (xs : List Row). cond (is_open_before day r rows) (unnumbered r ∷ xs) xs) (open_seen day rows)
-    ∙ at (is_open_before day r rows)
-  where
-    at : (b : Bool) → cond b (unnumbered r ∷ map unnumbered (open_rows day rows)) (map unnumbered (open_rows day rows)) ≡ map unnumbered (cond b (r ∷ open_rows day rows) (open_rows day rows))
-    at true = refl
-    at false = refl
+open_seen day (r ∷ rows) = grind (arith, later_seen day (series_of r) rows, open_seen day rows)
 
 nodes_in : (rows : List Row) → filter_map node_in (map unnumbered rows) ≡ filter_map node_in rows
 nodes_in [] = refl
@@ -40,11 +31,7 @@ nodes_seen : (day : ℤ) (rows : List Row) → nodes_of day (map unnumbered rows
 nodes_seen day rows = ap (λ (xs : List Row). filter_map node_in xs) (open_seen day rows) ∙ nodes_in (open_rows day rows)
 
 link_seen : (day : ℤ) (nodes : List OpenNode) (r : Row) (d : Details) → link_with day nodes (unnumbered r) d ≡ link_with day nodes r d
-link_seen day nodes r (details.Entity kind name identifiers) = refl
-link_seen day nodes r (details.Person kind name) = refl
-link_seen day nodes r (details.Relationship None party interests) = refl
-link_seen day nodes r (details.Relationship (Some subject) None interests) = refl
-link_seen day nodes r (details.Relationship (Some subject) (Some party) interests) = refl
+link_seen day nodes r d = grind arith
 
 links_in : (day : ℤ) (nodes : List OpenNode) (rows : List Row) → filter_map (link_in day nodes) (map unnumbered rows) ≡ filter_map (link_in day nodes) rows
 links_in day nodes [] = refl

@@ -52,6 +52,7 @@ fn add(alloc: Global, keys: &mut BTreeSet<Key>, node: &Node) -> Result<(), Alloc
 }
 
 // Adds records.
+#[tactic(auto, using(bor_records::proofs::OnLinks::Found::none))]
 fn add_all(alloc: Global, keys: &mut BTreeSet<Key>, nodes: &[Node]) -> Result<(), AllocError>
     ensures { OnOk result (IsGained (λ n. Contains nodes.now n)
         (nodes_in keys.old) (nodes_in keys.new)) }
@@ -63,6 +64,7 @@ fn add_all(alloc: Global, keys: &mut BTreeSet<Key>, nodes: &[Node]) -> Result<()
 }
 
 // Adds the records of persons.
+#[tactic(auto, using(bor_records::proofs::OnLinks::Found::none, std::proofs::lemmas::List::take_all))]
 fn add_persons(
     alloc: Global,
     keys: &mut BTreeSet<Key>,
@@ -87,6 +89,7 @@ fn add_link(alloc: Global, keys: &mut BTreeSet<Key>, line: &EvidenceLink) -> Res
 }
 
 // Adds the records of links and those of their ends.
+#[tactic(auto, using(bor_records::proofs::OnLinks::Found::none, std::proofs::lemmas::List::take_all))]
 fn add_links(
     alloc: Global,
     keys: &mut BTreeSet<Key>,
@@ -102,6 +105,7 @@ fn add_links(
 }
 
 // Adds the records by which entities are one.
+#[tactic(auto, using(bor_records::proofs::OnLinks::Found::none, std::proofs::lemmas::List::take_all))]
 fn add_sames(
     alloc: Global,
     keys: &mut BTreeSet<Key>,

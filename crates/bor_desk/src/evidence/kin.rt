@@ -35,6 +35,7 @@ fn take_signed(
 }
 
 // Takes the entities that have one of some signs out of the map.
+#[tactic(auto, using(bor_records::proofs::OnLinks::Found::none, std::proofs::lemmas::List::take_all))]
 fn take_all(
     alloc: Global,
     signed: &mut BTreeMap<Sign, Values<Node>>,
@@ -114,6 +115,7 @@ impl Kin {
     }
 
     // Those of these records that are open entities.
+    #[tactic(auto, using(std::proofs::lemmas::List::take_all))]
     fn among<K: Keep>(
         alloc: Global,
         keep: &mut K,

@@ -42,6 +42,7 @@ fn add(
 }
 
 // Adds those of the aliases of a node that weren't found before.
+#[tactic(auto, using(bor_records::proofs::OnLinks::Found::none))]
 fn add_new(
     alloc: Global,
     after: &mut BTreeMap<Node, Option<Node>>,
@@ -59,6 +60,7 @@ fn add_new(
 }
 
 // The aliases of those in a level that weren't found before, among the entities of the class.
+#[tactic(auto, using(bor_records::proofs::OnLinks::Found::none))]
 fn found_from(
     alloc: Global,
     kin: &mut Kin,

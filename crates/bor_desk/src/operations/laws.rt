@@ -24,6 +24,7 @@ pub fn legal_stays_legal()
 ghost use Rattle.bor_desk.specs.Operations.Forms.{StaysFormed};
 
 /// A new register has values of their forms, and each operation on such values leaves such a one.
+#[tactic(auto, using(crate::proofs::OnOperations::Forms::stays_formed))]
 pub fn forms_are_kept()
     ensures { StaysFormed }
 {}
@@ -31,6 +32,7 @@ pub fn forms_are_kept()
 /// In a legal register what is published of a record is the front of what is live of it. So the
 /// published filings of an agent obey the record rules by themselves, and no settled status tells
 /// of a draft.
+#[tactic(auto, using(crate::proofs::OnOperations::Legality::published_is_front))]
 pub fn published_is_a_prefix()
     ensures { PublishedPrefix }
 {}
@@ -38,6 +40,7 @@ pub fn published_is_a_prefix()
 /// An agent of a legal register sees the same as it would alone with what the others have
 /// published: no number, key, byte or draft of another is in it, nor an order of acceptance between
 /// agents.
+#[tactic(auto, using(crate::proofs::OnOperations::Alone::alone_rules))]
 pub fn sight_is_alone()
     ensures { SightAlone }
 {}
@@ -45,12 +48,14 @@ pub fn sight_is_alone()
 /// The rows that a viewer sees show the same nodes and links with the numbers of the filings and
 /// without, on every day. So a chain report tells nothing of another agent's numbers. This holds of
 /// every register.
+#[tactic(auto, using(crate::proofs::OnOperations::SeenLinks::numbers_make_no_links))]
 pub fn numbers_make_no_links()
     ensures { NumbersMakeNoLinks }
 {}
 
 /// A lodging that is answered as fresh is the next entry of the journal of all that was accepted:
 /// the register left is the one of the journal with that filing at its end.
+#[tactic(auto, using(crate::proofs::OnOperations::NextEntries::next_entry))]
 pub fn a_lodging_is_the_next_entry()
     ensures { LodgingIsNextEntry }
 {}

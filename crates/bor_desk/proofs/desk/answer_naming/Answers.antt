@@ -1,9 +1,5 @@
-use Rattle.std.proofs.Common.{subst, sym}
 use Rattle.bor_register.proofs.Callers.{caller_is_enrolled}
-use Rattle.bor_desk.specs.declared.reply.DeskReply.{DeskReply}
-use Rattle.bor_desk.specs.Operations.Outcomes.{Accounts}
-use Rattle.bor_desk.specs.Outcomes.{fault_of}
-use Rattle.bor_desk.proofs.Accounts.{after_answer}
+use Rattle.bor_desk.proofs.Steps.{after_answer}
 use Rattle.bor_desk.proofs.desk.answer_naming.Goals as goal
 
 pub answer_agent-made-requires : goal.answer_agent-made-requires
@@ -18,12 +14,10 @@ pub returns-in-Ok-Some-Agent-Agent-clause-accounted : goal.returns-in-Ok-Some-Ag
 returns-in-Ok-Some-Agent-Agent-clause-accounted g c =
     let who = c.in-Ok-Some-Agent-Agent.ensures.reads in
     let made = c.answer_agent-made.ensures in
-    subst (λ (reply : DeskReply). Accounts g.K.Keep.meaning c.args.keep.now c.answer_agent-made.new.keep (fault_of reply)) (sym c.named-in-Ok-Some-Agent-Agent.ensures.reply)
-    (after_answer g.K.Keep.meaning _ _ _ _ who.kept who.counts who.lasts made.leaves.began made.accounted)
+    after_answer g.K.Keep.meaning _ _ _ _ _ c.named-in-Ok-Some-Agent-Agent.ensures.reply who.kept who.counts who.lasts made.leaves.began made.accounted
 
 pub returns-in-Ok-Some-Registrar-Registrar-clause-accounted : goal.returns-in-Ok-Some-Registrar-Registrar-clause-accounted
 returns-in-Ok-Some-Registrar-Registrar-clause-accounted g c =
     let who = c.in-Ok-Some-Registrar-Registrar.ensures.reads in
     let made = c.answer_registrar.ensures in
-    subst (λ (reply : DeskReply). Accounts g.K.Keep.meaning c.args.keep.now c.answer_registrar.new.keep (fault_of reply)) (sym c.named-in-Ok-Some-Registrar-Registrar.ensures.reply)
-    (after_answer g.K.Keep.meaning _ _ _ _ who.kept who.counts who.lasts made.leaves.began made.accounted)
+    after_answer g.K.Keep.meaning _ _ _ _ _ c.named-in-Ok-Some-Registrar-Registrar.ensures.reply who.kept who.counts who.lasts made.leaves.began made.accounted

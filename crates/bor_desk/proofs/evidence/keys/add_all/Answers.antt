@@ -5,9 +5,6 @@ use Rattle.bor_desk.specs.Mentioned.{IsGained, nodes_in}
 use Rattle.bor_desk.proofs.OnEvidence.Keyed.{gained_node, gained_nothing}
 use Rattle.bor_desk.proofs.evidence.keys.add_all.Goals as goal
 
-pub loop-node-init : goal.loop-node-init
-loop-node-init c = gained_nothing (nodes_in c.args.keys.now)
-
 pub loop-node-preserved : goal.loop-node-preserved
 loop-node-preserved c =
     gained_node c.args.nodes.now c.loop-node.node-index c.node-item.result (nodes_in c.args.keys.now) (nodes_in c.loop-node.keys) (nodes_in c.add.new.keys) (omega arith) c.node-item.is c.loop-node.invariant

@@ -5,14 +5,7 @@ use Rattle.bor_desk.specs.Mentioned.{IsGained, IsOfAny, IsOfLink, nodes_in}
 use Rattle.bor_desk.proofs.OnEvidence.Keyed.{gained_more, gained_none}
 use Rattle.bor_desk.proofs.evidence.keys.add_links.Goals as goal
 
-pub loop-line-init : goal.loop-line-init
-loop-line-init c = gained_none {X = EvidenceLink} IsOfLink (nodes_in c.args.keys.now)
-
 pub loop-line-preserved : goal.loop-line-preserved
 loop-line-preserved c =
     gained_more c.args.links.now IsOfLink c.loop-line.line-index c.line-item.result (nodes_in c.args.keys.now) (nodes_in c.loop-line.keys) (nodes_in c.add_link.new.keys) (omega arith) c.line-item.is c.loop-line.invariant
     c.in_ok-add_link.ensures
-
-pub returns : goal.returns
-returns c =
-    subst (λ (xs : List EvidenceLink). IsGained (IsOfAny xs IsOfLink) (nodes_in c.args.keys.now) (nodes_in c.loop-line.keys)) (take_all c.loop-line.line-index c.args.links.now (omega arith)) c.loop-line.invariant

@@ -5,14 +5,7 @@ use Rattle.bor_desk.specs.Mentioned.{IsGained, IsOfAny, nodes_in}
 use Rattle.bor_desk.proofs.OnEvidence.Keyed.{gained_more, gained_none}
 use Rattle.bor_desk.proofs.evidence.keys.add_persons.Goals as goal
 
-pub loop-person-init : goal.loop-person-init
-loop-person-init c = gained_none {X = EvidencePerson} (λ person n. n ≡ person.node) (nodes_in c.args.keys.now)
-
 pub loop-person-preserved : goal.loop-person-preserved
 loop-person-preserved c =
     gained_more c.args.persons.now (λ person n. n ≡ person.node) c.loop-person.person-index c.person-item.result (nodes_in c.args.keys.now) (nodes_in c.loop-person.keys) (nodes_in c.add.new.keys) (omega arith) c.person-item.is c.loop-person.invariant
     c.in_ok-add.ensures
-
-pub returns : goal.returns
-returns c =
-    subst (λ (xs : List EvidencePerson). IsGained (IsOfAny xs (λ person n. n ≡ person.node)) (nodes_in c.args.keys.now) (nodes_in c.loop-person.keys)) (take_all c.loop-person.person-index c.args.persons.now (omega arith)) c.loop-person.invariant

@@ -6,14 +6,7 @@ use Rattle.bor_desk.specs.Mentioned.{IsGained, IsOfAny, nodes_in}
 use Rattle.bor_desk.proofs.OnEvidence.Keyed.{gained_more, gained_none}
 use Rattle.bor_desk.proofs.evidence.keys.add_sames.Goals as goal
 
-pub loop-line-init : goal.loop-line-init
-loop-line-init c = gained_none {X = LinkEvidence} (λ line n. Contains line.same n) (nodes_in c.args.keys.now)
-
 pub loop-line-preserved : goal.loop-line-preserved
 loop-line-preserved c =
     gained_more c.args.links.now (λ line n. Contains line.same n) c.loop-line.line-index c.line-item.result (nodes_in c.args.keys.now) (nodes_in c.loop-line.keys) (nodes_in c.add_all.new.keys) (omega arith) c.line-item.is c.loop-line.invariant
     (subst (λ (ns : List Node). IsGained (λ n. Contains ns n) (nodes_in c.loop-line.keys) (nodes_in c.add_all.new.keys)) c.as_slice.ensures c.in_ok-add_all.ensures)
-
-pub returns : goal.returns
-returns c =
-    subst (λ (xs : List LinkEvidence). IsGained (IsOfAny xs (λ line n. Contains line.same n)) (nodes_in c.args.keys.now) (nodes_in c.loop-line.keys)) (take_all c.loop-line.line-index c.args.links.now (omega arith)) c.loop-line.invariant

@@ -8,16 +8,7 @@ use Rattle.bor_records.specs.Links.Values.{under}
 use Rattle.bor_desk.proofs.OnEvidence.Kin.{taken_next, taken_none}
 use Rattle.bor_desk.proofs.evidence.kin.take_all.Goals as goal
 
-pub loop-sign-init : goal.loop-sign-init
-loop-sign-init c =
-    subst (λ (ns : List Node). AreTaken [] (under sign_cmp c.args.signed.now) (under sign_cmp c.args.signed.now) [] ns) (sym c.new-taken.ensures.items) (taken_none (under sign_cmp c.args.signed.now) [])
-
 pub loop-sign-preserved : goal.loop-sign-preserved
 loop-sign-preserved c =
     taken_next c.args.signs.now c.loop-sign.sign-index c.sign-item.result (under sign_cmp c.args.signed.now) (under sign_cmp c.loop-sign.signed) (under sign_cmp c.take_signed.new.signed) [] c.loop-sign.taken.items c.take_signed.new.taken.items
     (omega arith) c.sign-item.is c.loop-sign.invariant c.in_ok-take_signed.ensures
-
-pub returns : goal.returns
-returns c =
-    subst (λ (ks : List Sign). AreTaken ks (under sign_cmp c.args.signed.now) (under sign_cmp c.loop-sign.signed) [] c.loop-sign.taken.items)
-    (take_all c.loop-sign.sign-index c.args.signs.now (omega arith)) c.loop-sign.invariant

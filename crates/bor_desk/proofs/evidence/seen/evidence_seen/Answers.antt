@@ -9,7 +9,7 @@ use Rattle.bor_desk.specs.Evidence.{AreLinkEvidence, person_evidence}
 use Rattle.bor_desk.specs.Mentioned.{AreMentioned, records_at}
 use Rattle.bor_desk.specs.Operations.Sight.{seen_by}
 use Rattle.bor_desk.specs.Ways.{AreLinked}
-use Rattle.bor_desk.proofs.OnEvidence.Linked.{evidence_found}
+use Rattle.bor_desk.proofs.OnEvidence.Mentions.{evidence_found}
 use Rattle.bor_desk.proofs.OnOperations.SeenLinks.{numbers_make_no_links}
 use Rattle.bor_desk.proofs.evidence.seen.evidence_seen.Goals as goal
 

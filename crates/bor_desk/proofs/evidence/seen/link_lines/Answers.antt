@@ -3,7 +3,7 @@ use Rattle.std.proofs.lemmas.List.{take_more}
 use Rattle.bor_records.proofs.KeptLaws.{kept_then, lasts_then}
 use Rattle.bor_register.specs.Seen.{seen_at}
 use Rattle.bor_chains.specs.declared.tree.EvidenceLink.{EvidenceLink}
-use Rattle.bor_desk.proofs.OnEvidence.Linked.{links_more}
+use Rattle.bor_desk.proofs.OnEvidence.Mentions.{links_more}
 use Rattle.bor_desk.proofs.evidence.seen.link_lines.Goals as goal
 
 pub loop-line-preserved : goal.loop-line-preserved

@@ -1,7 +1,7 @@
 use Rattle.std.proofs.Common.{◌<◌, ◌∙◌, arith, length}
 use Rattle.bor_records.proofs.KeptLaws.{kept_then, lasts_then}
 use Rattle.bor_register.specs.Rows.{visible}
-use Rattle.bor_desk.proofs.OnEvidence.Told.{IsTold, records_more, told_closed, told_open}
+use Rattle.bor_desk.proofs.OnEvidence.Mentions.{IsTold, records_more, told_closed, told_open}
 use Rattle.bor_desk.proofs.evidence.seen.records_seen.Goals as goal
 use Rattle.bor_desk.proofs.evidence.seen.records_seen.Goals.{in-Some, in_default}
 

@@ -9,9 +9,6 @@ use Rattle.bor_desk.specs.Ways.{AreAdded}
 use Rattle.bor_desk.proofs.OnEvidence.Ways.{added_more, added_none}
 use Rattle.bor_desk.proofs.evidence.ways.add_new.Goals as goal
 
-pub loop-alias-init : goal.loop-alias-init
-loop-alias-init c = added_none c.args.node.now (λ x. get node_cmp c.args.after.now x) c.args.found.now.items
-
 pub loop-alias-preserved : goal.loop-alias-preserved
 loop-alias-preserved c =
     added_more c.args.node.now c.loop-alias.yielded (c.in-Some.alias ∷ []) (λ x. get node_cmp c.args.after.now x) (λ x. get node_cmp c.loop-alias.after x) (λ x. get node_cmp c.add.new.after x)

@@ -7,11 +7,6 @@ use Rattle.bor_desk.specs.Ways.{AreFoundFrom}
 use Rattle.bor_desk.proofs.OnEvidence.Ways.{found_kin, found_none}
 use Rattle.bor_desk.proofs.evidence.ways.found_from.Goals as goal
 
-pub loop-node-init : goal.loop-node-init
-loop-node-init c = λ s target class of.
-    let a = λ (x : Node). get node_cmp c.args.after.now x in
-    (subst (λ (ns : List Node). AreFoundFrom s c.args.level.now 0 a a ns) (sym c.new-found.ensures.items) (found_none s c.args.level.now a), of)
-
 pub loop-node-preserved : goal.loop-node-preserved
 loop-node-preserved c = λ s target class of.
     found_kin s target c.args.level.now c.loop-node.node-index c.node-item.result c.in_ok-near.near.items c.loop-node.kin c.take_near.new.self

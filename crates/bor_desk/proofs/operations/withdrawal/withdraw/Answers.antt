@@ -4,8 +4,7 @@ use Rattle.std.proofs.lemmas.Result.{err_from_is_err_and}
 use Rattle.bor_register.specs.declared.filing.State.{State}
 use Rattle.bor_register.specs.declared.filing.State.TheVariants.{Withdrawn}
 use Rattle.bor_desk.specs.Operations.Legality.{IsLegal}
-use Rattle.bor_desk.proofs.OnOperations.Withdrawing.{again_left, draft-left}
-use Rattle.bor_desk.proofs.OnOperations.Refusals.{refused_withdrawal-outcome}
+use Rattle.bor_desk.proofs.OnOperations.Refusals.{again_left, draft-left, refused_withdrawal-outcome}
 use Rattle.bor_desk.proofs.OnOperations.Legality.{withdrawal-stays_legal}
 use Rattle.bor_desk.proofs.operations.withdrawal.withdraw.Goals as goal
 

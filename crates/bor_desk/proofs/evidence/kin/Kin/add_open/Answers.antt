@@ -5,30 +5,22 @@ use Rattle.bor_records.proofs.OnLinks.Listed.{found_is}
 use Rattle.bor_register.specs.Rows.{visible}
 use Rattle.bor_register.specs.Seen.{seen_at}
 use Rattle.bor_desk.specs.Kin.{AreKin, NoneFound}
-use Rattle.bor_desk.proofs.OnEvidence.Kin.{kin_same, listed_of, person_listed, unlisted}
+use Rattle.bor_desk.proofs.OnEvidence.Kin.{kin_same, listed_of}
 use Rattle.bor_desk.proofs.evidence.kin.Kin.add_open.Goals as goal
 
 pub returns-in_default-clause-answer : goal.returns-in_default-clause-answer
 returns-in_default-clause-answer g c = λ r is clean nodes of.
-    let s = seen_at c.args.viewer.now c.args.day r in
-    let node = c.args.node.now in
-    kin_same s nodes node c.args.self.now (unlisted s node (listed_of c.args.day (visible c.args.viewer.now r.day r.members) node None None (sym c.in_default.is ∙ c.in_ok-row.ensures.answer r is clean) refl)) of
+    kin_same c.args.day (visible c.args.viewer.now r.day r.members) nodes c.args.node.now c.args.self.now None None (sym c.in_default.is ∙ c.in_ok-row.ensures.answer r is clean) refl tt of
 
 pub returns-in_default-2-clause-answer : goal.returns-in_default-2-clause-answer
 returns-in_default-2-clause-answer g c = λ r is clean nodes of.
-    let s = seen_at c.args.viewer.now c.args.day r in
-    let node = c.args.node.now in
-    kin_same s nodes node c.args.self.now
-    (unlisted s node (listed_of c.args.day (visible c.args.viewer.now r.day r.members) node (Some c.in-Some.row) None (sym c.in-Some.is ∙ c.in_ok-row.ensures.answer r is clean) (sym c.in_default-2.is ∙ c.in_ok-one.ensures))) of
+    kin_same c.args.day (visible c.args.viewer.now r.day r.members) nodes c.args.node.now c.args.self.now (Some c.in-Some.row) None (sym c.in-Some.is ∙ c.in_ok-row.ensures.answer r is clean)
+    (sym c.in_default-2.is ∙ c.in_ok-one.ensures) tt of
 
 pub returns-then-not-is_entity-clause-answer : goal.returns-then-not-is_entity-clause-answer
 returns-then-not-is_entity-clause-answer g c = λ r is clean nodes of.
-    let s = seen_at c.args.viewer.now c.args.day r in
-    let node = c.args.node.now in
-    let one = c.in-Some-2.one in
-    kin_same s nodes node c.args.self.now
-    (person_listed s node one (listed_of c.args.day (visible c.args.viewer.now r.day r.members) node (Some c.in-Some.row) (Some one) (sym c.in-Some.is ∙ c.in_ok-row.ensures.answer r is clean) (sym c.in-Some-2.is ∙ c.in_ok-one.ensures))
-    (sym c.is_entity.ensures ∙ c.if-not-is_entity.true)) of
+    kin_same c.args.day (visible c.args.viewer.now r.day r.members) nodes c.args.node.now c.args.self.now (Some c.in-Some.row) (Some c.in-Some-2.one) (sym c.in-Some.is ∙ c.in_ok-row.ensures.answer r is clean)
+    (sym c.in-Some-2.is ∙ c.in_ok-one.ensures) (sym c.is_entity.ensures ∙ c.if-not-is_entity.true) of
 
 pub returns-clause-answer : goal.returns-clause-answer
 returns-clause-answer g c = λ r is clean nodes of.

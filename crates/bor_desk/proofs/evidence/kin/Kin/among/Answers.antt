@@ -24,7 +24,3 @@ loop-node-preserved g c =
           subst (λ (ns : List Node). AreKin (seen_at c.args.viewer.now c.args.day r) ns NoneFound c.add_open.new.self) (ap (λ (n : Node). take at nodes ++ n ∷ []) c.node-item.is ∙ sym (take_more nodes at node lt))
           (asked.answer r ((inv.kept.same began r).0 is) clean (take at nodes) (inv.kin r is began));
     }
-
-pub returns-clause-answer : goal.returns-clause-answer
-returns-clause-answer g c = λ r is clean.
-    subst (λ (ns : List Node). AreKin (seen_at c.args.viewer.now c.args.day r) ns NoneFound c.loop-node.kin) (take_all c.loop-node.node-index c.args.nodes.now (omega arith)) (c.loop-node.invariant.kin r is clean)

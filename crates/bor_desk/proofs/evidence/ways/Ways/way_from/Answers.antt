@@ -2,7 +2,7 @@ use Rattle.std.proofs.Common.{◌++◌, ◌∷◌, [], List, ap, sym, subst, ◌
 use Rattle.std.specs.BTreeMap.{get}
 use Rattle.bor_records.specs.declared.links.node.Node.{Node}
 use Rattle.bor_records.specs.Links.Nodes.{node_cmp}
-use Rattle.bor_desk.proofs.OnEvidence.LeastWays.{IsOnWay, follows_known, followed, unfollowed, way_ends, way_goes_on}
+use Rattle.bor_desk.proofs.OnEvidence.Ways.{IsOnWay, follows_known, followed, unfollowed, way_ends, way_goes_on}
 use Rattle.bor_desk.proofs.evidence.ways.Ways.way_from.Goals as goal
 
 pub loop-next-preserved : goal.loop-next-preserved

@@ -5,7 +5,7 @@ use Rattle.bor_records.specs.declared.links.node.Node.{Node}
 use Rattle.bor_records.specs.Links.Nodes.{node_cmp}
 use Rattle.bor_records.specs.Links.Shown.{Shown}
 use Rattle.bor_desk.specs.Ways.{AreWaysTo}
-use Rattle.bor_desk.proofs.OnEvidence.LeastWays.{IsOnWay}
+use Rattle.bor_desk.proofs.OnEvidence.Ways.{IsOnWay}
 use Rattle.bor_desk.proofs.evidence.ways.Ways.way_from.Given as goal
 
 -- what is read off so far is the beginning of the least way
