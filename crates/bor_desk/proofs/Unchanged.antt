@@ -71,9 +71,6 @@ module _ {S W : Type 0} (meaning : Meaning S Register W StoreFault) (old new : S
   still : (r : Register) → (agent_step r name request).register ≡ r
   still r = agent_reads r name request (ap (λ (q : AgentRequest). is_read (of.Agent q)) is ∙ reads)
 
-  pub shown_reading : Promised meaning old new (λ r. meaning.shows new (agent_step r name request).register)
-  shown_reading = λ r shown clean. subst (meaning.shows new) (sym (still r)) ((kept.same clean r).0 shown)
-
   pub left_reading : (reply : DeskReply) → Promised meaning old new (λ r. IsLeft reply (meaning.shows new) r (agent_step r name request).register)
   left_reading reply = λ r shown clean. left_same reply (meaning.shows new) r _ (still r) ((kept.same clean r).0 shown)
 

@@ -156,6 +156,7 @@ fn entities_for<K: Keep>(
     })
 }
 
+#[tactic(auto, using(bor_register::proofs::Members::with_filings_same))]
 fn answer_agent<K: Keep>(
     alloc: Global,
     keep: &mut K,

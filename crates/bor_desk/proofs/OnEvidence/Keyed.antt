@@ -73,12 +73,6 @@ gained_key s n k m is updates added = record { kept = kept; every = every; only 
 pub gained_then : (P Q R : Node → Type 0) (a b c : List Node) → ((n : Node) → R n → P n ⊎ Q n) → ((n : Node) → P n ⊎ Q n → R n) → IsGained P a b → IsGained Q b c → IsGained R a c
 gained_then P Q R a b c apart join p q = grind (arith, apart, join, p.kept, p.every, p.only, q.kept, q.every, q.only)
 
-pub gained_none : {X : Type 0} (P : X → Node → Type 0) (a : List Node) → IsGained (IsOfAny [] P) a a
-gained_none P a = record { kept = λ n h. h; every = λ n h. absurd (none h.0 h.1); only = λ n h. inl h }
-
-pub gained_nothing : (a : List Node) → IsGained (λ n. Contains [] n) a a
-gained_nothing a = record { kept = λ n h. h; every = λ n h. absurd (none n h); only = λ n h. inl h }
-
 -- those of one more of a list
 pub gained_more : {X : Type 0} (xs : List X) (P : X → Node → Type 0) (i : ℕ) (x : X) (a b c : List Node) → i < length xs → x ≡ get_or xs i x → IsGained (IsOfAny (take i xs) P) a b → IsGained (P x) b c
     → IsGained (IsOfAny (take (i + 1) xs) P) a c

@@ -62,9 +62,6 @@ sign_shared s a b h =
 
 -- ---- nodes are taken by signs
 
-pub taken_none : (m : Sign → List Node) (was : List Node) → AreTaken [] m m was was
-taken_none m was = grind (arith, none)
-
 pub taken_more : (ks js : List Sign) (a b c : Sign → List Node) (u v w : List Node) → AreTaken ks a b u v → AreTaken js b c v w → AreTaken (ks ++ js) a c u w
 taken_more ks js a b c u v w one two = record {
   kept = λ n h. two.kept n (one.kept n h);

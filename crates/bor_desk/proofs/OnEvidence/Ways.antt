@@ -63,9 +63,6 @@ got_is xs i x h = (i, slice_get_within xs i x h, get_or_from_slice_get xs i x x 
 
 -- ---- one more
 
-pub added_none : (node : Node) (a : Followers) (found : List Node) → AreAdded node [] a a found found
-added_none node a found = grind (arith, none)
-
 pub added_one : (node x : Node) (a b : Followers) (found : List Node) → a x ≡ None → ((q : Node) → b q ≡ cond (is_eq (node_cmp x q)) (Some (Some node)) (a q)) → AreAdded node (x ∷ []) a b found (found ++ x ∷ [])
 added_one node x a b found gone put = record {
   stays = λ q next e. grind (arith, put_at x q (b q) (Some (Some node)) (a q) (put q), gone);
@@ -96,9 +93,6 @@ added_more node xs ys a b c f g h one two = record {
 }
 
 -- ---- along a level
-
-pub found_none : (s : Shown) (level : List Node) (a : Followers) → AreFoundFrom s level 0 a a []
-found_none s level a = grind (arith, none)
 
 pub or_less : (m n : ℕ) → m ≤ n → (m ≡ n) ⊎ (m < n)
 or_less m n le = grind arith

@@ -2,7 +2,7 @@ use Rattle.std.proofs.Common.{Contains, List, arith, subst}
 use Rattle.std.proofs.lemmas.List.{take_all}
 use Rattle.bor_records.specs.declared.links.node.Node.{Node}
 use Rattle.bor_desk.specs.Mentioned.{IsGained, nodes_in}
-use Rattle.bor_desk.proofs.OnEvidence.Keyed.{gained_node, gained_nothing}
+use Rattle.bor_desk.proofs.OnEvidence.Keyed.{gained_node}
 use Rattle.bor_desk.proofs.evidence.keys.add_all.Goals as goal
 
 pub loop-node-preserved : goal.loop-node-preserved

@@ -1,8 +1,6 @@
-use Rattle.std.proofs.Common.{List, arith, subst}
-use Rattle.std.proofs.lemmas.List.{take_all}
-use Rattle.bor_chains.specs.declared.tree.EvidenceLink.{EvidenceLink}
-use Rattle.bor_desk.specs.Mentioned.{IsGained, IsOfAny, IsOfLink, nodes_in}
-use Rattle.bor_desk.proofs.OnEvidence.Keyed.{gained_more, gained_none}
+use Rattle.std.proofs.Common.{arith}
+use Rattle.bor_desk.specs.Mentioned.{IsOfLink, nodes_in}
+use Rattle.bor_desk.proofs.OnEvidence.Keyed.{gained_more}
 use Rattle.bor_desk.proofs.evidence.keys.add_links.Goals as goal
 
 pub loop-line-preserved : goal.loop-line-preserved

@@ -1,8 +1,6 @@
-use Rattle.std.proofs.Common.{◌≡◌, List, arith, subst}
-use Rattle.std.proofs.lemmas.List.{take_all}
-use Rattle.bor_chains.specs.declared.tree.EvidencePerson.{EvidencePerson}
-use Rattle.bor_desk.specs.Mentioned.{IsGained, IsOfAny, nodes_in}
-use Rattle.bor_desk.proofs.OnEvidence.Keyed.{gained_more, gained_none}
+use Rattle.std.proofs.Common.{◌≡◌, arith}
+use Rattle.bor_desk.specs.Mentioned.{nodes_in}
+use Rattle.bor_desk.proofs.OnEvidence.Keyed.{gained_more}
 use Rattle.bor_desk.proofs.evidence.keys.add_persons.Goals as goal
 
 pub loop-person-preserved : goal.loop-person-preserved

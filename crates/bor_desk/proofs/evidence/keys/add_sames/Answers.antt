@@ -1,9 +1,7 @@
 use Rattle.std.proofs.Common.{Contains, List, arith, subst}
-use Rattle.std.proofs.lemmas.List.{take_all}
 use Rattle.bor_records.specs.declared.links.node.Node.{Node}
-use Rattle.bor_desk.specs.declared.evidence.lines.LinkEvidence.{LinkEvidence}
-use Rattle.bor_desk.specs.Mentioned.{IsGained, IsOfAny, nodes_in}
-use Rattle.bor_desk.proofs.OnEvidence.Keyed.{gained_more, gained_none}
+use Rattle.bor_desk.specs.Mentioned.{IsGained, nodes_in}
+use Rattle.bor_desk.proofs.OnEvidence.Keyed.{gained_more}
 use Rattle.bor_desk.proofs.evidence.keys.add_sames.Goals as goal
 
 pub loop-line-preserved : goal.loop-line-preserved

@@ -1,11 +1,7 @@
-use Rattle.std.proofs.Common.{[], List, arith, subst, sym}
-use Rattle.std.proofs.lemmas.List.{take_all}
-use Rattle.bor_records.specs.declared.links.node.Node.{Node}
-use Rattle.bor_records.specs.declared.links.sign.Sign.{Sign}
+use Rattle.std.proofs.Common.{[], arith}
 use Rattle.bor_records.specs.Links.Signs.{sign_cmp}
-use Rattle.bor_desk.specs.Kin.{AreTaken}
 use Rattle.bor_records.specs.Links.Values.{under}
-use Rattle.bor_desk.proofs.OnEvidence.Kin.{taken_next, taken_none}
+use Rattle.bor_desk.proofs.OnEvidence.Kin.{taken_next}
 use Rattle.bor_desk.proofs.evidence.kin.take_all.Goals as goal
 
 pub loop-sign-preserved : goal.loop-sign-preserved

@@ -6,7 +6,7 @@ use Rattle.std.proofs.lemmas.Iterator.Consumers.{YieldsList-end}
 use Rattle.std.proofs.lemmas.Iterator.Adapters.{YieldsList-from_vec}
 use Rattle.std.proofs.lemmas.List.{map-id}
 use Rattle.bor_desk.specs.Ways.{AreAdded}
-use Rattle.bor_desk.proofs.OnEvidence.Ways.{added_more, added_none}
+use Rattle.bor_desk.proofs.OnEvidence.Ways.{added_more}
 use Rattle.bor_desk.proofs.evidence.ways.add_new.Goals as goal
 
 pub loop-alias-preserved : goal.loop-alias-preserved

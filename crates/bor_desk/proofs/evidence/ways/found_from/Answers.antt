@@ -1,10 +1,9 @@
-use Rattle.std.proofs.Common.{List, ℕ, length, refl, subst, sym, arith}
+use Rattle.std.proofs.Common.{ℕ, length, refl, subst, arith}
 use Rattle.std.specs.BTreeMap.{get}
 use Rattle.std.proofs.lemmas.Option.{slice_get_read}
-use Rattle.bor_records.specs.declared.links.node.Node.{Node}
 use Rattle.bor_records.specs.Links.Nodes.{node_cmp}
 use Rattle.bor_desk.specs.Ways.{AreFoundFrom}
-use Rattle.bor_desk.proofs.OnEvidence.Ways.{found_kin, found_none}
+use Rattle.bor_desk.proofs.OnEvidence.Ways.{found_kin}
 use Rattle.bor_desk.proofs.evidence.ways.found_from.Goals as goal
 
 pub loop-node-preserved : goal.loop-node-preserved

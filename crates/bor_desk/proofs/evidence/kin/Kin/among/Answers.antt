@@ -1,5 +1,5 @@
 use Rattle.std.proofs.Common.{◌<◌, ◌++◌, ◌∷◌, ◌∙◌, [], List, ap, arith, length, subst, sym, take}
-use Rattle.std.proofs.lemmas.List.{take_all, take_more}
+use Rattle.std.proofs.lemmas.List.{take_more}
 use Rattle.bor_records.specs.declared.links.node.Node.{Node}
 use Rattle.bor_records.proofs.KeptLaws.{kept_then, lasts_then}
 use Rattle.bor_register.specs.Seen.{seen_at}
