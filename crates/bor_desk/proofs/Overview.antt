@@ -1,5 +1,5 @@
 -- The registrar's answers hang on the day, the tokens, the names, and what is published.
-use Rattle.std.proofs.Common.{◌≡◌, ℕ, ℤ, Bool, true, false, List, [], ◌∷◌, ◌++◌, map, length, Contains, Option, Some, None, option_map, is_some, append-nil, refl, sym, ap, ap₂, ◌∙◌, subst, inl, inr, arith}
+use Rattle.std.proofs.Common.{◌≡◌, ℕ, ℤ, Bool, true, false, List, [], ◌∷◌, ◌++◌, map, length, Contains, Option, Some, None, option_map, is_some, append-nil, refl, sym, ap, ap₂, ◌∙◌, arith}
 use Rattle.std.specs.Prelude.{if◌then◌else◌, ◌||◌, int_lt, filter}
 use Rattle.std.proofs.lemmas.List.{length-map}
 use Rattle.std.proofs.lemmas.List.Elements.{filter-append}
@@ -53,12 +53,11 @@ above_in name (x ∷ xs) m h on = grind (arith, cases x xs m on, above_in name x
 of_member : (day : ℤ) (ms : List Member) (m : Member) → IsOrdered ms → Contains ms m → filter (by_agent m.name) (published day ms) ≡ outwards_of day m.name m.filings
 of_member day [] m h on = absurd (none m on)
 of_member day (x ∷ xs) m h on =
-    filter-append (by_agent m.name) (outwards_of day x.name x.filings) (published day xs)
-    ∙ elim (cases x xs m on) [
-      | inl e ↦ subst (λ (y : Member). filter (by_agent y.name) (outwards_of day x.name x.filings) ++ filter (by_agent y.name) (published day xs) ≡ outwards_of day y.name y.filings) e
-          (ap₂ (λ (ps qs : List Outward). ps ++ qs) (own_outwards x.name (filter (is_published day) x.filings)) (none_above x.name day xs h.0) ∙ append-nil (outwards_of day x.name x.filings))
-      | inr k ↦ ap₂ (λ (ps qs : List Outward). ps ++ qs) (other_outwards m.name x.name (filter (is_published day) x.filings) (below_differs x.name m.name (above_in x.name xs m h.0 k))) (of_member day xs m h.1 k)
-    ]
+    let apart = filter-append (by_agent m.name) (outwards_of day x.name x.filings) (published day xs) in
+    let own = own_outwards x.name (filter (is_published day) x.filings) in
+    let other = other_outwards m.name x.name (filter (is_published day) x.filings) in
+    let alone = append-nil (outwards_of day x.name x.filings) in
+    grind (arith, apart, cases x xs m on, own, none_above x.name day xs h.0, alone, other, below_differs x.name m.name, above_in x.name xs m h.0, of_member day xs m h.1)
 
 line_from : List Outward → List ℕ × List ℕ → AgentLine
 line_from os agent = record { agent = agent.0; published = length (filter (by_agent agent.0) os) }

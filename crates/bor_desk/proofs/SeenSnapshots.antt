@@ -1,11 +1,8 @@
 -- The snapshot of an agent's declaration is the same from the rows that the keep tells of it and from all that the viewer sees.
-use Rattle.std.proofs.Common.{◌≡◌, ℕ, ℤ, ◌+◌, arith, Bool, true, false, List, [], ◌∷◌, ◌++◌, map, Option, None, option_map, option_and_then, refl, sym, ap, ◌∙◌, cond, inl, inr}
+use Rattle.std.proofs.Common.{◌≡◌, ℕ, ℤ, ◌+◌, arith, Bool, true, false, List, [], ◌∷◌, ◌++◌, map, Option, None, option_map, option_and_then, refl, sym, ap, ◌∙◌, cond}
 use Rattle.std.specs.Prelude.{unwrap_or}
 use Rattle.std.specs.List.{filter, filter_map, last_or, cons_option}
-use Rattle.std.specs.Ordering.{nat_cmp}
-use Rattle.std.specs.Cmp.Lexicographic.{slice_cmp}
-use Rattle.std.specs.BTreeSet.{insert_key}
-use Rattle.std.proofs.lemmas.Bool.{and_parts, cases_Bool}
+use Rattle.std.proofs.lemmas.Bool.{and_parts}
 use Rattle.std.proofs.lemmas.List.{append-nil}
 use Rattle.std.proofs.lemmas.List.Elements.{filter-append}
 use Rattle.bor_terms.specs.Texts.{is_same}
@@ -66,14 +63,9 @@ by-above viewer day agent (m ∷ ms) h =
 by-visible : (viewer : List ℕ) (day : ℤ) (agent : List ℕ) (ms : List Member) → IsOrdered ms → rows_by agent (visible viewer day ms) ≡ visible_in viewer day agent (filings_of agent ms)
 by-visible viewer day agent [] h = refl
 by-visible viewer day agent (m ∷ ms) h =
-    filter-append (by agent) (visible_in viewer day m.name m.filings) (visible viewer day ms) ∙ elim (cases_Bool (is_same m.name agent)) [
-      | inl e ↦
-          let is : m.name ≡ agent = same_is m.name agent e in
-          rw e (ap (λ rows. rows ++ rows_by agent (visible viewer day ms)) (by-rows_in agent m.name (filter (is_visible viewer day m.name) m.filings) true e)
-          ∙ ap (λ rows. visible_in viewer day m.name m.filings ++ rows) (ap (λ name. rows_by name (visible viewer day ms)) (sym is) ∙ by-above viewer day m.name ms h.0)
-          ∙ append-nil (visible_in viewer day m.name m.filings) ∙ ap (λ name. visible_in viewer day name m.filings) is)
-      | inr e ↦ rw e (ap (λ rows. rows ++ rows_by agent (visible viewer day ms)) (by-rows_in agent m.name (filter (is_visible viewer day m.name) m.filings) false e) ∙ by-visible viewer day agent ms h.1)
-    ]
+    let apart = filter-append (by agent) (visible_in viewer day m.name m.filings) (visible viewer day ms) in
+    let here = by-rows_in agent m.name (filter (is_visible viewer day m.name) m.filings) (is_same m.name agent) refl in
+    grind (arith, apart, here, same_is m.name agent, by-above viewer day m.name ms h.0, append-nil (visible_in viewer day m.name m.filings), by-visible viewer day agent ms h.1)
 
 -- ---- the rows of one declaration
 
@@ -81,9 +73,6 @@ series-of : (declaration rec : List ℕ) (rows : List Row) → record_rows decla
 series-of declaration rec rows =
     filter-wider (λ r. is_of declaration rec r.statement) (λ row. is_same row.statement.declaration declaration)
     (λ r h. (and_parts (is_same r.statement.declaration declaration) (is_same r.statement.rec rec) h).0) rows
-
-abbrev insert_rec : List (List ℕ) → Row → List (List ℕ)
-insert_rec recs r = insert_key (slice_cmp nat_cmp) recs r.statement.rec
 
 records-of : (declaration : List ℕ) (rows : List Row) → records declaration (of_declaration declaration rows) ≡ records declaration rows
 records-of declaration [] = refl

@@ -43,7 +43,8 @@ sublist_itself (x ∷ xs) = inl (refl, sublist_itself xs)
 
 sublist-filter : {X : Type 0} (p : X → Bool) (xs : List X) → IsSublist (filter p xs) xs
 sublist-filter p [] = tt
-sublist-filter {X} p (x ∷ xs) = cond_both (p x) (x ∷ filter p xs) (filter p xs) (λ ys. IsSublist ys (x ∷ xs)) (λ passes. inl (refl, sublist-filter p xs)) (λ fails. behind (filter p xs) (sublist-filter p xs))
+sublist-filter {X} p (x ∷ xs) = cond_both (p x) (x ∷ filter p xs) (filter p xs) (λ ys. IsSublist ys (x ∷ xs)) (λ passes. inl (refl, sublist-filter p xs))
+    (λ fails. behind (filter p xs) (sublist-filter p xs))
   where
     behind : (ys : List X) → IsSublist ys xs → IsSublist ys (x ∷ xs)
     behind [] h = tt
@@ -110,7 +111,8 @@ withdrawn-published day n key (g ∷ gs) f h found draft = grind (arith, withdra
 -- ---- an agent's request
 
 stands_own : (s : Sight) (request : AgentRequest) → AreLegal s.own → Stands s.day s.own s.day (own_after s request)
-stands_own s (ask.Lodge key due file) legal = by_lodging s key due file (Stands s.day s.own s.day) (stands_still s.day s.own) (λ ss fresh room read. stands_before s.day s.own (accepted s.own key due file ss))
+stands_own s (ask.Lodge key due file) legal = by_lodging s key due file (Stands s.day s.own s.day) (stands_still s.day s.own)
+    (λ ss fresh room read. stands_before s.day s.own (accepted s.own key due file ss))
 stands_own s (ask.Withdraw key) legal = by_withdrawal s key (Stands s.day s.own s.day) (stands_still s.day s.own)
     (λ f found live draft alone. stands_same s.day s.own (with_withdrawn f.number s.own) (withdrawn-published s.day 1 key s.own f legal.numbered found (rw (live, draft) refl)))
 stands_own s request legal = stands_still s.day s.own
@@ -166,7 +168,8 @@ standing_advance r date legal = by_advance r date (λ o. IsStanding r o.register
 
 standing_registrar : (r : Register) (request : RegistrarRequest) → IsLegal r → IsStanding r (registrar_step r request).register
 standing_registrar r (office.Day date) legal = standing_advance r date legal
-standing_registrar r (office.Enrol name token) legal = standing_same r _ (by_enrolment r name token (λ o. o.register.day ≡ r.day) (λ fault. refl) (λ fresh free. refl)) (registrar-filings r (office.Enrol name token))
+standing_registrar r (office.Enrol name token) legal =
+    standing_same r _ (by_enrolment r name token (λ o. o.register.day ≡ r.day) (λ fault. refl) (λ fresh free. refl)) (registrar-filings r (office.Enrol name token))
 standing_registrar r (office.Renew name token) legal = standing_same r _ (renewal-renews_token r name token).day (registrar-filings r (office.Renew name token))
 standing_registrar r office.Register legal = standing_still r
 

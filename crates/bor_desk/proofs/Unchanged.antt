@@ -1,5 +1,5 @@
 -- The requests that leave the register as it was: refusals, and requests that only read.
-use Rattle.std.proofs.Common.{◌≡◌, ℕ, ℤ, List, arith, true, false, Option, Some, refl, sym, ap, subst, ◌∙◌}
+use Rattle.std.proofs.Common.{◌≡◌, ℕ, ℤ, List, arith, true, false, Option, Some, refl, sym, ap, ◌∙◌}
 use Rattle.bor_records.specs.Promises.{Kept, Meaning, Promised}
 use Rattle.bor_register.specs.declared.caller.Caller.{Caller}
 use Rattle.bor_register.specs.declared.caller.Caller.TheVariants.{Registrar, Agent}
@@ -18,7 +18,7 @@ use Rattle.bor_desk.specs.declared.request.RegistrarRequest.TheVariants as offic
 use Rattle.bor_desk.specs.declared.reply.DeskReply.{DeskReply}
 use Rattle.bor_desk.specs.declared.reply.DeskReply.TheVariants as tell
 use Rattle.bor_desk.specs.Refusals.{of_advance, of_enrolment, of_lodging, of_renewal, of_withdrawal}
-use Rattle.bor_desk.specs.Step.{Answer, exactly, report, evidence, entities, told, own_after, agent_step, registrar_step, step}
+use Rattle.bor_desk.specs.Step.{Answer, exactly, told, own_after, agent_step, registrar_step, step}
 use Rattle.bor_desk.specs.Outcomes.{IsTold, IsLeft}
 use Rattle.bor_desk.specs.Laws.{may_tell_a_change, RefusalChangesNothing, is_read, is_long, ReadsLeave}
 use Rattle.bor_desk.proofs.OnOperations.Changes.{by_advance, by_enrolment, by_renewal}
@@ -88,9 +88,7 @@ long_is_unchanged reply h = grind arith
 
 long_told : (answer : Answer) (reply : DeskReply) → IsTold answer reply → is_long reply ≡ true → may_tell_a_change answer ≡ false
 long_told (exactly wanted) reply told h = long_is_unchanged wanted (ap is_long (sym told) ∙ h)
-long_told (report entity day shown) reply told h = refl
-long_told (evidence entity day seen) reply told h = refl
-long_told (entities identifier day seen) reply told h = refl
+long_told answer reply told h = refl
 
 pub reads : ReadsLeave
 reads = record {

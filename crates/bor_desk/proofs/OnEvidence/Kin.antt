@@ -1,7 +1,6 @@
 -- The entities of a class by their signs.
 use Rattle.std.proofs.Common.{◌≡◌, ◌⊎◌, ◌&&◌, ◌||◌, not, ◌++◌, ◌<◌, ◌+◌, ℕ, ℤ, option_and_then, Bool, true, false, cond, Option, Some, None, List, [], ◌∷◌, Contains, IsTrue, length, take, get_or, sym, ap, ◌∙◌, subst, inl, inr, arith, Vec, Global}
-use Rattle.std.specs.BTreeMap.{BTreeMap, IsEmpty, get, is_at}
-use Rattle.std.specs.Map.{lookup}
+use Rattle.std.specs.BTreeMap.{BTreeMap, get}
 use Rattle.std.specs.Ordering.{is_eq}
 use Rattle.std.specs.declared.cmp.Ordering.{Ordering}
 use Rattle.std.proofs.lemmas.Cmp.{tied_itself}
@@ -32,7 +31,6 @@ use Rattle.bor_desk.specs.declared.evidence.kin.Kin.{Kin}
 use Rattle.bor_desk.specs.Kin.{AreKin, AreTaken, HasSignAt, IsKinOf, NoneFound, signed_in, signs_listed, signs_under}
 use Rattle.bor_records.specs.declared.links.values.Values.{Values}
 use Rattle.bor_records.specs.Links.Values.{IsNoted, values_under, under}
-use Rattle.bor_records.proofs.OnLinks.Values.{empty_under}
 
 -- ---- a value is put at a node, and nowhere else
 
@@ -97,17 +95,6 @@ taken_one m less k o was now found removed more = record {
     stays j n false h = h
 
 -- ---- one entity after the other
-
-empty_signs : (m : BTreeMap Node (Vec Sign Global)) (n : Node) → m.entries ≡ [] → signs_under (get node_cmp m n) ≡ []
-empty_signs m n e = ap (λ (es : List (Node × Vec Sign Global)). signs_under (lookup (is_at (node_cmp n)) es)) e
-
-pub kin_none : (s : Shown) (kin : Kin) → IsEmpty kin.signs → IsEmpty kin.signed → AreKin s [] NoneFound kin
-kin_none s kin signs signed = record {
-  of_node = λ n k h. absurd (none k (subst (λ (ks : List Sign). Contains ks k) (empty_signs kin.signs n signs) h));
-  of_sign = λ n k h. absurd (none n (subst (λ (ns : List Node). Contains ns n) (empty_under sign_cmp kin.signed k signed) h));
-  each = λ n k on has. absurd (none n on);
-  every = λ n k on has. absurd (none n on);
-}
 
 -- what is listed of a record is what its latest statement makes
 pub listed_of : (day : ℤ) (rows : List Row) (node : Node) (row : Option Row) (one : Option OpenNode) → row ≡ open_at day node rows → one ≡ option_and_then node_in row → listed_at (nodes_of day rows) node ≡ one

@@ -80,10 +80,6 @@ added_one node x a b found gone put = record {
 still : (a b : Followers) → ((x : Node) (next : Option Node) → a x ≡ Some next → b x ≡ Some next) → (x : Node) → IsSome (a x) → IsSome (b x)
 still a b stays x h = let v = value (a x) h in some (b x) v.0 (stays x v.0 v.1)
 
--- .. so what isn't there wasn't
-before : (a b : Followers) → ((x : Node) (next : Option Node) → a x ≡ Some next → b x ≡ Some next) → (x : Node) → b x ≡ None → a x ≡ None
-before a b stays x gone = elim (either (a x)) [ inl e ↦ e | inr v ↦ absurd (not_both (b x) v.0 gone (stays x v.0 v.1)) ]
-
 pub added_more : (node : Node) (xs ys : List Node) (a b c : Followers) (f g h : List Node) → AreAdded node xs a b f g → AreAdded node ys b c g h → AreAdded node (xs ++ ys) a c f h
 added_more node xs ys a b c f g h one two = record {
   stays = λ x next e. two.stays x next (one.stays x next e);
@@ -262,10 +258,6 @@ known_all s goal depth a level known empty x (c ∷ cs) st = elim (one_more s go
 
 pub no_items : (v : Vec Node Global) → (v.len == 0) ≡ true → v.items ≡ []
 no_items v h = nil_from_length v.items (let same = v.ok.0 in let zero = eqb-true v.len 0 h in omega (arith, zero, same))
-
-pub some_last : (vs : List (Vec Node Global)) → 0 < length vs → slice_get vs (length vs - 1) ≡ None → ⊥
-some_last [] lt h = omega (arith, lt)
-some_last (v ∷ vs) lt h = not_both _ _ h (slice_get-get_or (v ∷ vs) (length (v ∷ vs) - 1) v (omega arith))
 
 abbrev pub last_level : Ways → Option (Vec Node Global)
 last_level w = slice_get w.levels.items (length w.levels.items - 1)

@@ -164,12 +164,10 @@ enrolled-above low name [] above h = absurd cc
 enrolled-above low name (m ∷ ms) above h = grind (arith, same_is m.name name, above.0, enrolled-above low name ms above.1)
 
 with_member-below : (new : Member) (name : List ℕ) (os : List Outward) (ms : List Member) → is_below name new.name ≡ true → with_member new (with_shown name os ms) ≡ with_shown name os (with_member new ms)
-with_member-below new name [] ms lt = refl
-with_member-below new name (o ∷ os) ms lt = rw lt refl
+with_member-below new name os ms lt = grind arith
 
 with_member-above : (new : Member) (name : List ℕ) (os : List Outward) (ms : List Member) → is_below new.name name ≡ true → with_member new ms ≡ new ∷ ms → with_member new (with_shown name os ms) ≡ new ∷ with_shown name os ms
-with_member-above new name [] ms lt rest = rest
-with_member-above new name (o ∷ os) ms lt rest = rw (not_below new.name name lt) refl
+with_member-above new name os ms lt rest = grind (arith, not_below new.name name lt)
 
 -- an agent below all comes first
 with_member-first : (new : Member) (name : List ℕ) (day : ℤ) (ms : List Member) → AllAbove new.name ms → with_member new (shown_beside name day ms) ≡ new ∷ shown_beside name day ms

@@ -13,8 +13,8 @@ use Rattle.bods_read.specs.declared.statement.Status.{Status}
 use Rattle.bods_read.specs.declared.fault.FileFault.{FileFault}
 use Rattle.bods_read.specs.File.{reading}
 use Rattle.bor_records.specs.Admission.{Live, is_of, last_of, admission, admitted, known_of, has_last}
-use Rattle.bor_records.specs.Settling.{statement_twice, has_id, verdict, as_settled, as_live, ahead, settled_then, settled_from, settled}
-use Rattle.bor_records.proofs.Settled.{last_of-append, has_id-append, of_rules, verdict_is}
+use Rattle.bor_records.specs.Settling.{has_id, verdict, as_settled, as_live, ahead, settled_then, settled_from, settled}
+use Rattle.bor_records.proofs.Settled.{last_of-append, has_id-append, verdict_is}
 use Rattle.bor_register.specs.declared.filing.AcceptedFiling.{AcceptedFiling}
 use Rattle.bor_register.specs.Register.{filing_keyed}
 use Rattle.bor_register.specs.Withdrawal.{shares_record, has_successor, with_withdrawn}
@@ -66,18 +66,19 @@ without_last live due gone = record {
 -- more statements are live after them
 without-more : (gone : List Statement) (live kept more : List Live) → IsWithout gone live kept → IsWithout gone (live ++ more) (kept ++ more)
 without-more gone live kept more w = record {
-  free = λ id h. let both = or_parts (has_id id live) (has_id id more) (sym (has_id-append id live more) ∙ h) in has_id-append id kept more ∙ rw (w.free id both.0, both.1) refl;
+  free = λ id h. grind (arith, has_id-append id live more, has_id-append id kept more, w.free id);
   last = λ t h. last_of-append t.declaration t.rec live more ∙ ap (option_or (last_of t.declaration t.rec more)) (w.last t h) ∙ sym (last_of-append t.declaration t.rec kept more);
 }
 
 -- ---- what is settled after them
 
+verdict_kept : (live kept : List Live) (s : Statement) (due : ℤ) (status : Status) → has_id s.id kept ≡ false → admitted kept s due ≡ admitted live s due → verdict live s due ≡ Ok status → verdict kept s due ≡ Ok status
+verdict_kept live kept s due status free same h = grind (arith, verdict_is live s due, verdict_is kept s due)
+
 -- a statement that is of none of their records is settled as it was
 verdict-without : (gone : List Statement) (live kept : List Live) (s : Statement) (due : ℤ) (status : Status) → IsWithout gone live kept → share_its gone s ≡ false → verdict live s due ≡ Ok status → verdict kept s due ≡ Ok status
 verdict-without gone live kept s due status w other h =
-    let given = verdict_gives live s due status h in
-    verdict_is kept s due ∙ ap (λ b. if b then Err statement_twice else of_rules (admitted kept s due)) (w.free s.id given.0)
-    ∙ ap (λ o. of_rules (admission o s due)) (sym (w.last s other)) ∙ ap of_rules given.1
+    verdict_kept live kept s due status (w.free s.id (verdict_gives live s due status h).0) (ap (λ o. admission o s due) (sym (w.last s other))) h
 
 -- statements that are of none of their records are settled as they were
 settled_from-without : (gone : List Statement) (live kept : List Live) (place : ℕ) (due : ℤ) (ss out : List Statement) → IsWithout gone live kept → settled_from place live due ss ≡ Ok out → share gone out ≡ false →
@@ -173,8 +174,7 @@ last_push : (declaration rec : List ℕ) (live : List Live) (l : Live) (b : Bool
 last_push declaration rec live l b e = grind (arith, last_of-append declaration rec live (l ∷ []))
 
 series_push : (declaration rec : List ℕ) (live : List Live) (l : Live) (b : Bool) → is_of declaration rec l.statement ≡ b → live_series declaration rec (live ++ l ∷ []) ≡ if b then live_series declaration rec live ++ l ∷ [] else live_series declaration rec live
-series_push declaration rec live l true e = filter-append (λ l. is_of declaration rec l.statement) live (l ∷ []) ∙ rw e refl
-series_push declaration rec live l false e = filter-append (λ l. is_of declaration rec l.statement) live (l ∷ []) ∙ rw e (append-nil (live_series declaration rec live))
+series_push declaration rec live l b e = grind (arith, filter-append (λ l. is_of declaration rec l.statement) live (l ∷ []), append-nil (live_series declaration rec live))
 
 -- a statement of a record has its declaration and its identifier
 names_of : (declaration rec : List ℕ) (s : Statement) → is_of declaration rec s ≡ true → (s.declaration ≡ declaration) × (s.rec ≡ rec)
@@ -184,7 +184,9 @@ names_of declaration rec s h = let both = and_parts (is_same s.declaration decla
 draft_more : (day due : ℤ) (live kept : List Live) (s : Statement) → int_le due day ≡ false → IsFront day live kept → IsFront day (live ++ as_live due s ∷ []) kept
 draft_more day due live kept s h w = record {
   free = λ id e. w.free id (or_parts (has_id id live) (has_id id (l ∷ [])) (sym (has_id-append id live (l ∷ [])) ∙ e)).0;
-  whole = λ declaration rec early. grind (arith, last_push declaration rec live l (is_of declaration rec s) refl, series_push declaration rec live l (is_of declaration rec s) refl, due_after due day h, w.whole declaration rec);
+  whole = λ declaration rec early.
+      let last = last_push declaration rec live l (is_of declaration rec s) refl in
+      grind (arith, last, series_push declaration rec live l (is_of declaration rec s) refl, due_after due day h, w.whole declaration rec);
   front = λ declaration rec.
       let old = w.front declaration rec in
       let new = live_series declaration rec (l ∷ []) in
@@ -206,7 +208,8 @@ published_more day due live kept s early w = record {
   free = λ id e. let both = or_parts (has_id id live) (has_id id (l ∷ [])) (sym (has_id-append id live (l ∷ [])) ∙ e) in has_id-append id kept (l ∷ []) ∙ rw (w.free id both.0, both.1) refl;
   whole = λ declaration rec in_time.
       let more = series_push declaration rec live l (is_of declaration rec s) refl in
-      grind (arith, last_push declaration rec live l (is_of declaration rec s) refl, more, series_push declaration rec kept l (is_of declaration rec s) refl, w.whole declaration rec, its_record declaration rec);
+      let last = last_push declaration rec live l (is_of declaration rec s) refl in
+      grind (arith, last, more, series_push declaration rec kept l (is_of declaration rec s) refl, w.whole declaration rec, its_record declaration rec);
   front = λ declaration rec. front declaration rec (is_of declaration rec s) refl;
 }
   where
@@ -235,8 +238,7 @@ verdict_published day due live kept s status by_day w h =
     let given = verdict_gives live s due status h in
     let early = not_late last due day by_day (due_in_order last s due status given.1) in (
       early,
-      verdict_is kept s due ∙ ap (λ b. if b then Err statement_twice else of_rules (admitted kept s due)) (w.free s.id given.0)
-          ∙ ap (λ ls. of_rules (admission (option_map known_of (last_or None ls)) s due)) (sym (w.whole s.declaration s.rec early)) ∙ ap of_rules given.1,
+      verdict_kept live kept s due status (w.free s.id given.0) (ap (λ ls. admission (option_map known_of (last_or None ls)) s due) (sym (w.whole s.declaration s.rec early))) h,
     )
 
 -- a published file's statements are settled after the published ones alone as they were, and are live after them

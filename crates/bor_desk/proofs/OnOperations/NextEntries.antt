@@ -1,7 +1,6 @@
 -- A lodging that adds a filing adds the journal's next entry.
-use Rattle.std.proofs.Common.{◌≡◌, ℕ, ℤ, List, [], ◌∷◌, ◌++◌, Bool, true, false, Result, Ok, Err, refl, ◌∙◌, sym, ap, subst, inl, inr, arith}
+use Rattle.std.proofs.Common.{◌≡◌, ℕ, ℤ, List, [], ◌∷◌, ◌++◌, Bool, true, false, Result, Ok, Err, refl, ◌∙◌, ap, subst, arith}
 use Rattle.std.specs.Prelude.{Option, Some, None, IsSome, if◌then◌else◌}
-use Rattle.std.proofs.lemmas.Bool.{cases_Bool}
 use Rattle.bor_terms.specs.Texts.{is_same}
 use Rattle.bor_terms.proofs.Texts.{same_is, same_refl, same_sym, below_differs}
 use Rattle.bor_register.specs.declared.member.Member.{Member}
@@ -86,15 +85,10 @@ members-own f a rest entries none =
 members-push : (name : List ℕ) (f : AcceptedFiling) (agents : List Agent) (entries : List JournalEntry) → AreNamedOnce agents →
     with_filings name (entries_of name entries ++ f ∷ []) (members_from agents entries) ≡ members_from agents (entries ++ record { agent = name; filing = f } ∷ [])
 members-push name f [] entries once = refl
-members-push name f (a ∷ rest) entries once = elim (cases_Bool (is_same a.name name)) [
-  | inl e ↦
-      subst (λ n. with_filings n (entries_of n entries ++ f ∷ []) (members_from (a ∷ rest) entries) ≡ members_from (a ∷ rest) (entries ++ record { agent = n; filing = f } ∷ [])) (same_is a.name name e)
-      (members-own f a rest entries once.0)
-  | inr e ↦
-      with_filings-other (record { name = a.name; token = a.token; filings = entries_of a.name entries }) name (entries_of name entries ++ f ∷ []) (members_from rest entries) e
-      ∙ ap (with_member (record { name = a.name; token = a.token; filings = entries_of a.name entries })) (members-push name f rest entries once.1)
-      ∙ ap (λ fs. with_member (record { name = a.name; token = a.token; filings = fs }) (members_from rest (entries ++ record { agent = name; filing = f } ∷ []))) (sym (entries_of-push name a.name f entries false (same_sym name a.name ∙ e)))
-]
+members-push name f (a ∷ rest) entries once =
+    let other = with_filings-other (record { name = a.name; token = a.token; filings = entries_of a.name entries }) name (entries_of name entries ++ f ∷ []) (members_from rest entries) in
+    let entry = entries_of-push name a.name f entries false in
+    grind (arith, same_is a.name name, same_sym name a.name, members-own f a rest entries once.0, other, entry, members-push name f rest entries once.1)
 
 -- ---- the law
 

@@ -76,7 +76,8 @@ kept-with_token : (name token : List ℕ) (m : Member) (ms : List Member) → is
 kept-with_token name token m [] other h = h
 kept-with_token name token m (x ∷ xs) other h = elim (cases x xs m h) [
   | inl e ↦ subst (λ (y : Member). Contains (with_token name token (x ∷ xs)) y) e (rw (ap (λ (y : Member). is_same y.name name) e ∙ other) (here x (with_token name token xs)))
-  | inr k ↦ cond_both (is_same x.name name) _ _ (λ ms. Contains ms m) (λ own. there (record x { token = token }) xs m k) (λ apart. there x (with_token name token xs) m (kept-with_token name token m xs other k))
+  | inr k ↦ cond_both (is_same x.name name) _ _ (λ ms. Contains ms m) (λ own. there (record x { token = token }) xs m k)
+      (λ apart. there x (with_token name token xs) m (kept-with_token name token m xs other k))
 ]
 
 pub renewal-renews_token : (r : Register) (name token : List ℕ) → RenewsToken name r (renew_step r name token).register
@@ -117,7 +118,8 @@ named_in token name (m ∷ ms) h = grind (arith, same_refl name, named_in token 
 closed-with_token : (name token old : List ℕ) (ms : List Member) → IsOrdered ms → AreTokensDistinct ms → is_same token old ≡ false → agent_with old ms ≡ Some name → agent_with old (with_token name token ms) ≡ None
 closed-with_token name token old [] ordered distinct other had = absurd cc
 closed-with_token name token old (m ∷ ms) ordered distinct other had =
-    grind (arith, closed-with_token name token old ms ordered.1 distinct.1 other, none_with old ms, named_in old name ms, above-not_enrolled m.name ms ordered.0, same_is m.token old, same_is m.name name, is_same-of m.name name)
+    let later = closed-with_token name token old ms ordered.1 distinct.1 other in
+    grind (arith, later, none_with old ms, named_in old name ms, above-not_enrolled m.name ms ordered.0, same_is m.token old, same_is m.name name, is_same-of m.name name)
 
 caller_none : (token : List ℕ) (r : Register) → caller_of token r ≡ None → (is_same r.registrar token ≡ false) × (agent_with token r.members ≡ None)
 caller_none token r h = grind arith

@@ -2,7 +2,7 @@ use Rattle.std.proofs.Common.{◌≡◌, ◌++◌, refl, ap, ◌∙◌}
 use Rattle.bor_desk.specs.Operations.Lodging.{lodge_step}
 use Rattle.bor_desk.specs.Texts.{answering, accepted_line, outward_lines}
 use Rattle.bor_desk.specs.CheckReport.{outcome_text}
-use Rattle.bor_desk.proofs.Reports.{lodge_step-check, accepted-text, refused-text, refused-err}
+use Rattle.bor_desk.proofs.Reports.{lodge_step-check, accepted-text, refused-text}
 use Rattle.bor_desk.proofs.check.lodged_in.Goals as goal
 
 pub returns-in-Ok-clause-text : goal.returns-in-Ok-clause-text
@@ -22,6 +22,3 @@ returns-clause-text c =
     let r = c.args.keep.now.register in
     let same = lodge_step-check r c.in_ok-agent.agent c.in_ok-key.key c.check_day.result c.args.bytes.now c.requires c.in_ok-agent.ensures c.in_ok-key.ensures c.check_day.ensures in
     refused-text c.in-Err.fault c.from.result (λ left. c.lodge.new.keep.register ≡ left) r _ _ c.fault_text.result same (c.in-Err.ensures.step r refl tt) c.from.ensures c.fault_text.ensures
-
-pub returns-clause-err : goal.returns-clause-err
-returns-clause-err c = refused-err c.in-Err.fault c.from.result c.fault_text.result _ _ (c.in-Err.ensures.accounted.told c.args.keep.now.register refl tt) c.from.ensures c.fault_text.ensures

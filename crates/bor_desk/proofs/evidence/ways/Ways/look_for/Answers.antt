@@ -8,9 +8,6 @@ use Rattle.bor_desk.proofs.OnEvidence.Ways.{kin_in}
 use Rattle.bor_desk.proofs.evidence.ways.Ways.look_for.Goals as goal
 use Rattle.bor_desk.proofs.evidence.ways.Ways.look_for.Goals.{then-loop-self-test+else-goes_on, else-loop-self-test}
 
-pub loop-self-init : goal.loop-self-init
-loop-self-init g c = λ s target ways of. (ways, of)
-
 pub loop-self-preserved : goal.loop-self-preserved
 loop-self-preserved g c = λ s target ways of.
     let was = c.loop-self.invariant s target ways of in

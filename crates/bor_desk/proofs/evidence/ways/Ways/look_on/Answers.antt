@@ -6,12 +6,8 @@ use Rattle.bor_records.specs.declared.links.node.Node.{Node}
 use Rattle.bor_records.specs.Links.Nodes.{node_cmp}
 use Rattle.bor_desk.specs.Kin.{IsKinOf}
 use Rattle.bor_desk.specs.Ways.{AreFoundFrom, AreOfClass}
-use Rattle.bor_desk.proofs.OnEvidence.Ways.{level_known, some_last, ways_more}
+use Rattle.bor_desk.proofs.OnEvidence.Ways.{level_known, ways_more}
 use Rattle.bor_desk.proofs.evidence.ways.Ways.look_on.Goals as goal
-
-pub returns-in_default-clause-longer : goal.returns-in_default-clause-longer
-returns-in_default-clause-longer c = λ lt.
-    absurd (some_last c.args.self.now.levels.items lt (ap (λ (xs : List (Vec Node Global)). slice_get xs (length xs - 1)) (sym c.deref.ensures.value) ∙ sym c.in_default.ensures.value))
 
 pub returns-clause-answer : goal.returns-clause-answer
 returns-clause-answer c = λ s target known of.
