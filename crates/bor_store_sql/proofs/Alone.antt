@@ -1,7 +1,7 @@
 -- Each statement of a stored register stands alone at its place.
-use Rattle.std.proofs.Common.{◌≡◌, ℕ, ◌==◌, Bool, true, false, List, [], ◌∷◌, ◌++◌, refl, ap, subst, ◌∙◌, arith}
-use Rattle.std.specs.Prelude.{All, filter, if◌then◌else◌}
+use Rattle.std.proofs.Common.{inl, inr, ◌≡◌, ℕ, ◌==◌, false, List, [], ◌∷◌, ◌++◌, refl, ap, subst, ◌∙◌, arith, All, filter}
 use Rattle.std.specs.List.{AllByRecursion}
+use Rattle.std.proofs.lemmas.Bool.{cases_Bool}
 use Rattle.std.proofs.lemmas.Bool.Decides.{nat_tests}
 use Rattle.std.proofs.lemmas.List.Elements.{All-nil, All-cons, All-head, All-tail}
 use Rattle.bor_terms.specs.Texts.{is_same}
@@ -50,11 +50,10 @@ all_back P (x ∷ xs) ys h = all_back P xs ys (All-tail P x (xs ++ ys) h)
 -- what holds of all statements holds of an agent's
 pub own_placed : (P : Placed → Type 0) (agent : List ℕ) (ms : List Member) → All P (placed ms) → All P (placed_by agent (filings_of agent ms))
 own_placed P agent [] h = h
-own_placed P agent (m ∷ ms) h = go (is_same m.name agent) refl (own_placed P agent ms (all_back P (placed_by m.name m.filings) (placed ms) h))
-  where
-    go : (b : Bool) → is_same m.name agent ≡ b → All P (placed_by agent (filings_of agent ms)) → All P (placed_by agent (if b then m.filings else filings_of agent ms))
-    go true e more = subst (λ a. All P (placed_by a m.filings)) (same_is m.name agent e) (all_front P (placed_by m.name m.filings) (placed ms) h)
-    go false e more = more
+own_placed P agent (m ∷ ms) h = elim (cases_Bool (is_same m.name agent)) [
+  | inl e ↦ rw e (subst (λ a. All P (placed_by a m.filings)) (same_is m.name agent e) (all_front P (placed_by m.name m.filings) (placed ms) h))
+  | inr e ↦ rw e (own_placed P agent ms (all_back P (placed_by m.name m.filings) (placed ms) h))
+]
 
 pub own_alone_at : (agent : List ℕ) (r : Register) → IsStored r → All (IsAlone (placed r.members)) (placed_of agent r)
 own_alone_at agent r stored = own_placed (IsAlone (placed r.members)) agent r.members (each_alone (placed r.members) (all_apart r.members stored.ordered stored.numbered))

@@ -1,7 +1,7 @@
 -- How a transaction ends, and what a caller knows of it.
 use Rattle.std.proofs.Common.{◌≡◌, ◌⊎◌, inl, inr, IsOk, Ok, Err, Result, OnOk, OnErr, IfErr, IsErr, IsTrue, [], false, true, true≢false, refl, sym, subst, ◌∙◌}
 use Rattle.sqlite.specs.Effect.{Database}
-use Rattle.sqlite.specs.Held.{Held, state}
+pub use Rattle.sqlite.specs.Held.{Held, state}
 use Rattle.sqlite.specs.Schema.{Schema}
 use Rattle.sqlite.specs.State.{State, HasCleanDisk, IsRolledBack, Shows, KeepsCounts, Survives}
 use Rattle.sqlite.specs.Steps.{FailsToCommit}
@@ -13,7 +13,7 @@ use Rattle.bor_store_sql.specs.Ran.{Ends, Moved, MovesTo, RanOpenIn}
 use Rattle.bor_store_sql.specs.Rows.Encoding.{contents}
 use Rattle.bor_store_sql.specs.Rows.Stored.{IsStored}
 use Rattle.bor_store_sql.specs.Shown.{AltersTo, Commits, Has, IsClean, IsUp, LeavesAtMost, Stands}
-use Rattle.bor_store_sql.proofs.Moves.{no_more, was_clean}
+use Rattle.bor_store_sql.proofs.Moves.{Left, left, no_more, was_clean}
 
 -- what was done failed, and is undone
 pub undone : (old new : State) (done result : Result (Unit {0}) Error) → Survives old new (λ _. ⊥) → IsErr result → (HasCleanDisk new → IsRolledBack old new) → Ends old new done result
@@ -38,13 +38,9 @@ module _ (old new : State) (survives : Survives old new (λ trees. trees ≡ old
     | inr made ↦ inr (went, made)
   ]
 
-  failed_open : (e : Error) → FailsToCommit old new e → IsTrue new.is_open → IsTrue old.is_open
-  failed_open e (inl fails) up = fails.3.was_open up
-  failed_open e (inr ended) up = ended.2.0.was_open
-
-  failed_committed : (e : Error) → FailsToCommit old new e → IsTrue new.is_open → new.committed ≡ old.committed
-  failed_committed e (inl fails) up = (fails.3.undone up).1
-  failed_committed e (inr ended) up = ended.2.0.committed_is
+  failed : (e : Error) → FailsToCommit old new e → Left old new
+  failed e (inl fails) = left old new (inr fails.3)
+  failed e (inr ended) = left old new (inl ended.2)
 
   -- it is committed, or fails
   pub committed : (done result : Result (Unit {0}) Error) → IsOk done
@@ -61,10 +57,10 @@ module _ (old new : State) (survives : Survives old new (λ trees. trees ≡ old
   committed done (Err e) went ok err = record {
     clean = was_sound;
     stops = left_of done went;
-    was_open = λ clean up. failed_open e (err clean) up;
+    was_open = λ clean up. (failed e (err clean)).was_open up;
     committed = λ clean. tt;
     up = λ clean. tt;
-    undone = λ clean up. failed_committed e (err clean) up;
+    undone = λ clean up. (failed e (err clean)).committed up;
   }
 
 -- what was made by the end of a transaction

@@ -1,5 +1,6 @@
 -- The rows that a query gives of a register that is shown.
 use Rattle.std.proofs.Common.{◌≡◌, inl, inr, ℕ, List, [], Vec, Ok, Err, Result, IfOk, refl, sym, ap, subst, ◌∙◌}
+use Rattle.std.proofs.lemmas.Result.{IfOk-weaker}
 use Rattle.std.specs.declared.alloc.Global.{Global}
 use Rattle.sqlite.specs.declared.types.Value.TheVariants.{Null}
 use Rattle.sqlite.specs.declared.error.Error.{Error}
@@ -24,8 +25,7 @@ Shows text params old new rows = (old.now ≡ old.committed) × Shown text param
 
 pub settled_shown : (text : List ℕ) (params : Row) (old new : State) (settled : old.now ≡ old.committed) (result : Result (Vec Row Global) Error) → IfOk result (λ x. Shown text params old new x.items)
     → IfOk result (λ x. Shows text params old new x.items)
-settled_shown text params old new settled (Ok x) h = (settled, h)
-settled_shown text params old new settled (Err e) h = tt
+settled_shown text params old new settled result h = IfOk-weaker result (λ x. Shown text params old new x.items) (λ x. Shows text params old new x.items) (λ x shown. (settled, shown)) h
 
 -- what is known is so where rows come
 pub known : {X E P : Type 0} (result : Result X E) → P → IfOk result (λ x. P)
@@ -50,12 +50,10 @@ finds {IsShown} {text} {params} {rows_of = rows_of} {old} {new} {result} answers
       reads = asked.reads;
       settled = asked.settled;
       up = asked.up;
-      rows = λ clean r shows. go result r shows (subst (λ row. IfOk result (λ rows. Shows text row old new rows.items)) is (asked.shown clean));
+      rows = λ clean r shows.
+          IfOk-weaker result (λ rows. Shows text params old new rows.items) (λ rows. rows.items ≡ rows_of r) (λ rows h. found.gives r old new rows.items shows h)
+          (subst (λ row. IfOk result (λ rows. Shows text row old new rows.items)) is (asked.shown clean));
     }
-  where
-    go : (result : Result (Vec Row Global) Error) (r : Register) → IsShown r old → IfOk result (λ rows. Shows text params old new rows.items) → IfOk result (λ rows. rows.items ≡ rows_of r)
-    go (Ok rows) r shows h = found.gives r old new rows.items shows h
-    go (Err e) r shows h = tt
 
 module _ (r : Register) (old new : State) (shows : ShowsIn r old) (settled : old.now ≡ old.committed) where
   pub has_now : Has (contents r) old.now

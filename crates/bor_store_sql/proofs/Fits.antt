@@ -1,10 +1,19 @@
--- The rows that a filing's statements have in the tables, and those of the statements that a file says.
-use Rattle.std.proofs.Common.{◌≡◌, ◌⊎◌, inl, inr, ◌↔◌, ℕ, ◌+◌, ◌<◌, ◌==◌, Bool, true, false, List, [], ◌∷◌, ◌++◌, map, append-nil, is_some, true≢false, Option, Some, None, option_map, refl, sym, ap, ap₂, subst, ◌∙◌, slice_set, arith}
-use Rattle.std.specs.Prelude.{All}
-use Rattle.std.specs.List.{flat_map}
-use Rattle.std.proofs.lemmas.List.{map-set}
-use Rattle.std.proofs.lemmas.List.Elements.{All-head, All-tail, All-filter, filter-append}
+-- Whether what a file says is what is kept of its filing.
+use Rattle.std.proofs.Common.{◌≡◌, ℕ, zero, suc, ◌+◌, ◌<◌, List, [], ◌∷◌, take, length, get_or, refl, sym, ap₂, subst, ◌∙◌, arith, ◌↔◌, Bool, true, false, true≢false, Vec, Result, Ok, IfOk, IsTrue, ◌⊎◌, inl, inr, ◌==◌, ◌++◌, map, append-nil, is_some, Option, Some, None, option_map, ap, slice_set, All, flat_map}
+use Rattle.bor_store_sql.specs.Fitting.{Pairwise, TellsWhether, Fit, FitsAt, IsKept, columns_beside, standing, statements_kept, with_status}
+use Rattle.std.specs.declared.alloc.Global.{Global}
+use Rattle.std.proofs.lemmas.Result.{IfOk-weaker}
 use Rattle.sqlite.specs.Order.{Row, column}
+use Rattle.sqlite.specs.State.{State}
+use Rattle.sqlite.specs.declared.error.Error.{Error}
+use Rattle.bor_register.specs.Register.{Register, filings_of}
+use Rattle.bor_store_sql.specs.Rows.Encoding.{contents, identifier_columns, interest_columns, or_null, statement_columns}
+use Rattle.bor_store_sql.specs.Found.{FindsRows, ReadsOnly}
+use Rattle.bor_store_sql.specs.Shown.{HasLists, IsClean, ShowsLists}
+use Rattle.bor_store_sql.proofs.Finding.{read_on}
+use Rattle.std.proofs.lemmas.List.{map-set}
+use Rattle.std.proofs.lemmas.Bool.{cases_Bool}
+use Rattle.std.proofs.lemmas.List.Elements.{All-head, All-tail, All-filter, filter-append}
 use Rattle.sqlite.specs.Values.{bound, bound_value}
 use Rattle.sqlite_value.specs.Value.{owned}
 use Rattle.sqlite_value.specs.declared.value.ValueRef.{ValueRef}
@@ -13,22 +22,109 @@ use Rattle.sqlite.specs.declared.types.Value.TheVariants.{Text}
 use Rattle.bods_read.specs.Words.{status_word, status_worded}
 use Rattle.bods_read.specs.declared.statement.Statement.{Statement}
 use Rattle.bods_read.specs.declared.statement.Status.{Status}
-use Rattle.bor_register.specs.Register.{Register, filings_of}
 use Rattle.bor_register.specs.declared.filing.AcceptedFiling.{AcceptedFiling}
 use Rattle.bor_register.specs.declared.member.Member.{Member}
-use Rattle.bor_store_sql.specs.Rows.Encoding.{identifier_columns, interest_columns, or_null, statement_columns}
 use Rattle.bor_store_sql.specs.Rows.Placed.{bare, identifier_rows, interest_rows, placed, placed_by, placed_from}
 use Rattle.bor_store_sql.specs.Rows.Stored.{AreNumbered, IsStored}
 use Rattle.bods_read.specs.WordLaws.{status_back}
 use Rattle.bor_store_sql.specs.declared.rows.typed.Placed.{Placed}
 use Rattle.bor_store_sql.proofs.OnRows.Successors.{is_number, none_filed, other_filing, own_filing}
-use Rattle.bor_store_sql.specs.Fitting.{Fit, FitsAt, IsKept, Pairwise, columns_beside, standing, statements_kept, with_status}
 use Rattle.bor_store_sql.specs.Selected.{identifiers_at, in_filing, interests_at, numbered, placed_of}
 use Rattle.bor_store_sql.proofs.Alone.{IsAlone, own_alone_at}
 use Rattle.bor_store_sql.proofs.StoredMembers.{numbered_of}
 use Rattle.bor_store_sql.proofs.OnRows.Each.{none_numbered}
 
--- ---- the status of a row
+-- ---- two lists, element by element
+
+module _ {A B : Type 0} (P : ℕ → A → B → Type 0) where
+  pub as_many : (n : ℕ) (xs : List A) (ys : List B) → Pairwise P n xs ys → length xs ≡ length ys
+  as_many n [] [] h = refl
+  as_many n [] (y ∷ ys) h = absurd h
+  as_many n (x ∷ xs) [] h = absurd h
+  as_many n (x ∷ xs) (y ∷ ys) h = omega (arith, as_many (n + 1) xs ys h.1)
+
+  pub pair_at : (n i : ℕ) (xs : List A) (ys : List B) (x : A) (y : B) → i < length xs → x ≡ get_or xs i x → y ≡ get_or ys i y → Pairwise P n xs ys → P (n + i) x y
+  pair_at n i [] ys x y lt e f h = absurd (omega (arith, lt))
+  pair_at n i (a ∷ xs) [] x y lt e f h = absurd h
+  pair_at n zero (a ∷ xs) (b ∷ ys) x y lt e f h =
+      let here : n ≡ n + 0 = omega arith in
+      subst (λ m. P m x y) here (subst (λ z. P n z y) (sym e) (subst (P n a) (sym f) h.0))
+  pair_at n (suc i) (a ∷ xs) (b ∷ ys) x y lt e f h =
+      let here : (n + 1) + i ≡ n + suc i = omega arith in
+      subst (λ m. P m x y) here (pair_at (n + 1) i xs ys x y (omega (arith, lt)) e f h.1)
+
+  -- one pair more
+  pub one_more : (n i m : ℕ) (xs : List A) (ys : List B) (x : A) (y : B) → i < length xs → i < length ys → x ≡ get_or xs i x → y ≡ get_or ys i y → m ≡ n + i
+      → Pairwise P n (take i xs) (take i ys) → P m x y → Pairwise P n (take (i + 1) xs) (take (i + 1) ys)
+  one_more n i m [] ys x y lt below e f is h p = absurd (omega (arith, lt))
+  one_more n i m (a ∷ xs) [] x y lt below e f is h p = absurd (omega (arith, below))
+  one_more n zero m (a ∷ xs) (b ∷ ys) x y lt below e f is h p =
+      let here : m ≡ n = omega (arith, is) in
+      (subst (λ k. P k a b) here (subst (λ z. P m z b) e (subst (P m x) f p)), tt)
+  one_more n (suc i) m (a ∷ xs) (b ∷ ys) x y lt below e f is h p =
+      let next : suc (i + 1) ≡ suc i + 1 = omega arith in
+      let there : m ≡ (n + 1) + i = omega (arith, is) in
+      let more : Pairwise P n (take (suc (i + 1)) (a ∷ xs)) (take (suc (i + 1)) (b ∷ ys)) = (h.0, one_more (n + 1) i m xs ys x y (omega (arith, lt)) (omega (arith, below)) e f there h.1 p) in
+      subst (λ k. Pairwise P n (take k (a ∷ xs)) (take k (b ∷ ys))) next more
+
+-- a list that is made of another's elements, each with its number
+module _ {X Y : Type 0} (make : ℕ → X → Y) (from : ℕ → List X → List Y) (none : (n : ℕ) → from n [] ≡ []) (some : (n : ℕ) (x : X) (xs : List X) → from n (x ∷ xs) ≡ make n x ∷ from (n + 1) xs) where
+  abbrev pub IsMade : ℕ → X → Y → Type 0
+  IsMade n x y = y ≡ make n x
+
+  pub made_from : (n : ℕ) (xs : List X) (ys : List Y) → Pairwise IsMade n xs ys → from n xs ≡ ys
+  made_from n [] [] h = none n
+  made_from n [] (y ∷ ys) h = absurd h
+  made_from n (x ∷ xs) [] h = absurd h
+  made_from n (x ∷ xs) (y ∷ ys) h = some n x xs ∙ ap₂ (λ z l. z ∷ l) (sym h.0) (made_from (n + 1) xs ys h.1)
+
+  pub all_made : (n : ℕ) (xs : List X) (ys : List Y) → from n xs ≡ ys → Pairwise IsMade n xs ys
+  all_made n [] [] e = tt
+  all_made n [] (y ∷ ys) e = let no : [] ≡ y ∷ ys = sym (none n) ∙ e in absurd cc
+  all_made n (x ∷ xs) [] e = let no : make n x ∷ from (n + 1) xs ≡ [] = sym (some n x xs) ∙ e in absurd cc
+  all_made n (x ∷ xs) (y ∷ ys) e =
+      let both : make n x ∷ from (n + 1) xs ≡ y ∷ ys = sym (some n x xs) ∙ e in
+      let first : y ≡ make n x = cc in
+      let rest : from (n + 1) xs ≡ ys = cc in
+      (first, all_made (n + 1) xs ys rest)
+
+-- ---- the answers of tables that are asked
+
+-- tables that are left as they were show what they showed
+pub still_lists : (r : Register) (old new : State) → new.committed ≡ old.committed → ShowsLists r old → ShowsLists r new
+still_lists r old new same shows = record { has = subst (HasLists (contents r)) (sym same) shows.has; stored = shows.stored }
+
+module _ (old new : State) (reads : ReadsOnly old new) where
+  pub told_false : {Holds : Register → Type 0} → (IsClean new → (r : Register) → ShowsLists r old → Holds r → ⊥) → TellsWhether old new (Ok false) Holds
+  told_false fails = record { reads = reads; told = λ clean r shows. (λ e. absurd (true≢false (sym e)), λ h. absurd (fails clean r shows h)) }
+
+  -- what is told of the tables that were left
+  pub told_after : {P Q : Register → Type 0} (last : State) (result : Result Bool Error) → TellsWhether new last result P → (IsClean new → (r : Register) → ShowsLists r old → P r ↔ Q r) → TellsWhether old last result Q
+  told_after {P} {Q} last result tells same = record {
+    reads = read_on reads tells.reads;
+    told = λ clean r shows.
+        let both = same (tells.reads.began clean) r shows in
+        IfOk-weaker result (λ b. IsTrue b ↔ P r) (λ b. IsTrue b ↔ Q r) (λ b h. (λ e. both.0 (h.0 e), λ q. h.1 (both.1 q))) (tells.told clean r (still_lists r old new (reads.kept (tells.reads.began clean)) shows));
+  }
+
+-- what is told where one thing of several doesn't hold
+pub told_unless : {P Q : Register → Type 0} (old new : State) (b : Bool) → b ≡ false → TellsWhether old new (Ok b) P → ((r : Register) → Q r → P r) → TellsWhether old new (Ok false) Q
+told_unless old new b untrue tells needs = record {
+  reads = tells.reads;
+  told = λ clean r shows. (λ e. absurd (true≢false (sym e)), λ q. absurd (true≢false (sym ((tells.told clean r shows).1 (needs r q)) ∙ untrue)));
+}
+
+-- what is told of the rows that a query finds
+pub told_of_rows : (P : List Row → Type 0) {Holds : Register → Type 0} (old new : State) (rows : Vec Row Global) (rows_of : Register → List Row) (given : List Row) (result : Result Bool Error) → FindsRows ShowsLists old new (Ok rows) rows_of → given ≡ rows.items
+    → IfOk result (λ b. IsTrue b ↔ P given) → ((r : Register) → P (rows_of r) ↔ Holds r) → TellsWhether old new result Holds
+told_of_rows P {Holds} old new rows rows_of given result found is h same = record {
+  reads = found.reads;
+  told = λ clean r shows.
+      let are = is ∙ found.rows clean r shows in
+      IfOk-weaker result (λ b. IsTrue b ↔ P given) (λ b. IsTrue b ↔ Holds r) (λ b k. (λ e. (same r).0 (subst P are (k.0 e)), λ q. k.1 (subst P (sym are) ((same r).1 q)))) h;
+}
+
+-- ---- the rows of statements that are kept, and of those that a file says: the status of a row
 
 abbrev status_value : Option Status → Value
 status_value status = or_null (option_map status_word status)
@@ -122,17 +218,15 @@ statements_of fs = flat_map (λ (f : AcceptedFiling). f.statements) fs
 
 filed : (agent : List ℕ) (number n : ℕ) (fs : List AcceptedFiling) → AreNumbered n fs → in_filing number (placed_by agent fs) ≡ placed_from agent number 1 (statements_of (numbered number fs))
 filed agent number n [] h = refl
-filed agent number n (f ∷ fs) h = filter-append (λ (p : Placed). p.at.filing == number) (placed_from agent f.number 1 f.statements) (placed_by agent fs) ∙ go (f.number == number) refl (filed agent number (n + 1) fs h.1)
-  where
-    go : (b : Bool) → (f.number == number) ≡ b → in_filing number (placed_by agent fs) ≡ placed_from agent number 1 (statements_of (numbered number fs))
-        → in_filing number (placed_from agent f.number 1 f.statements) ++ in_filing number (placed_by agent fs) ≡ placed_from agent number 1 (statements_of (numbered number (f ∷ fs)))
-    go true e more =
-        let same : f.number ≡ number = is_number f.number number e in
-        let low : number < n + 1 = let is = h.0 in omega (arith, is, same) in
-        let alone : statements_of (numbered number (f ∷ fs)) ≡ f.statements = rw e (ap (λ l. f.statements ++ statements_of l) (none_numbered number (n + 1) fs low h.1) ∙ append-nil f.statements) in
-        ap₂ (λ x y. x ++ y) (subst (λ m. in_filing number (placed_from agent m 1 f.statements) ≡ placed_from agent number 1 f.statements) (sym same) (own_filing agent number 1 f.statements)) (none_filed agent number (n + 1) fs low h.1)
-        ∙ append-nil (placed_from agent number 1 f.statements) ∙ ap (placed_from agent number 1) (sym alone)
-    go false e more = rw e (ap₂ (λ x y. x ++ y) (other_filing agent number f.number 1 f.statements e) more)
+filed agent number n (f ∷ fs) h = filter-append (λ (p : Placed). p.at.filing == number) (placed_from agent f.number 1 f.statements) (placed_by agent fs) ∙ elim (cases_Bool (f.number == number)) [
+  | inl e ↦
+      let same : f.number ≡ number = is_number f.number number e in
+      let low : number < n + 1 = let is = h.0 in omega (arith, is, same) in
+      let alone : statements_of (numbered number (f ∷ fs)) ≡ f.statements = rw e (ap (λ l. f.statements ++ statements_of l) (none_numbered number (n + 1) fs low h.1) ∙ append-nil f.statements) in
+      ap₂ (λ x y. x ++ y) (subst (λ m. in_filing number (placed_from agent m 1 f.statements) ≡ placed_from agent number 1 f.statements) (sym same) (own_filing agent number 1 f.statements)) (none_filed agent number (n + 1) fs low h.1)
+      ∙ append-nil (placed_from agent number 1 f.statements) ∙ ap (placed_from agent number 1) (sym alone)
+  | inr e ↦ rw e (ap₂ (λ x y. x ++ y) (other_filing agent number f.number 1 f.statements e) (filed agent number (n + 1) fs h.1))
+]
 
 module _ (agent : List ℕ) (number : ℕ) (r : Register) (stored : IsStored r) where
   kept_filed : in_filing number (placed_of agent r) ≡ placed_from agent number 1 (statements_kept agent number r)

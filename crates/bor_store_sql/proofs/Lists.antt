@@ -1,7 +1,5 @@
 -- The rows that the loops over a statement's lists, and over statements, have added so far.
-use Rattle.std.specs.Prelude.{is_some, ◌||◌}
-use Rattle.std.proofs.Common.{◌≡◌, zero, suc, arith, true, false, true≢false, refl, Option, Some, None, ℤ, ℕ, ◌+◌, ◌<◌, ◌^◌, Result, Ok, Err, IfOk, subst, List, [], ◌∷◌, ◌++◌, map, take, length, get_or, append-nil, sym, ap, ap₂, ◌∙◌}
-use Rattle.std.proofs.lemmas.List.{append_assoc}
+use Rattle.std.proofs.Common.{◌≡◌, zero, suc, arith, true, false, true≢false, refl, Option, Some, None, ℤ, ℕ, ◌+◌, ◌<◌, ◌^◌, Result, Ok, Err, IfOk, subst, List, [], ◌∷◌, ◌++◌, map, take, length, get_or, append-nil, sym, ap, ap₂, ◌∙◌, append_assoc, is_some, ◌||◌}
 use Rattle.bods_read.specs.declared.statement.Statement.{Statement}
 use Rattle.bods_read.specs.declared.details.Identifier.{Identifier}
 use Rattle.bods_read.specs.declared.interest.Interest.{Interest}
@@ -72,6 +70,3 @@ module _ (i : InterestRow) where
 
   pub one_said : (is_some i.interest.starts || is_some i.interest.ends) ≡ true → (t : Contents) → with_period_row (period_of i) t ≡ with_period_rows (i ∷ []) t
   one_said e t = ap (λ l. record t { periods = t.periods ++ (map period_columns l ++ []) }) (sym (said_one i.interest.starts i.interest.ends e))
-
-  pub none_said : (is_some i.interest.starts || is_some i.interest.ends) ≡ false → (t : Contents) → t ≡ with_period_rows (i ∷ []) t
-  none_said e t = ap (λ l. record t { periods = l }) (sym (append-nil t.periods)) ∙ ap (λ l. record t { periods = t.periods ++ (map period_columns l ++ []) }) (sym (said_none i.interest.starts i.interest.ends e))

@@ -1,8 +1,6 @@
 -- The rows of the members, and those of one agent.
-use Rattle.std.proofs.Common.{◌≡◌, ℕ, Bool, true, false, List, [], ◌∷◌, ◌++◌, filter, append-nil, true≢false, refl, sym, ap, ap₂, subst, subst₂, ◌∙◌, IsPermutation}
-use Rattle.std.specs.Prelude.{if◌then◌else◌, ◌||◌}
+use Rattle.std.proofs.Common.{◌≡◌, ℕ, Bool, true, false, List, [], ◌∷◌, ◌++◌, filter, append-nil, true≢false, refl, sym, ap, ap₂, subst, subst₂, ◌∙◌, IsPermutation, append_assoc, if◌then◌else◌, ◌||◌}
 use Rattle.std.specs.List.{AllByRecursion}
-use Rattle.std.proofs.lemmas.List.{append_assoc}
 use Rattle.std.proofs.lemmas.List.Sorted.{IsPermutation-append_comm, IsPermutation-append_right, IsPermutation-cons, IsPermutation-refl}
 use Rattle.std.proofs.lemmas.List.Elements.{filter-append}
 use Rattle.sqlite_keyed.proofs.ListLemmas.{all_weaker, filter_all, filter_none}

@@ -1,12 +1,13 @@
 -- The effects of a transaction, one statement after the other.
-use Rattle.std.proofs.Common.{subst₂, ◌≡◌, ◌⊎◌, inl, inr, ◌<◌, ◌≤◌, ◌+◌, ℕ, List, [], ◌∷◌, ◌++◌, map, take, length, get_or, append_assoc, append-nil, Ok, Err, IfOk, Result, IsTrue, IsErr, true≢false, refl, sym, ap, subst, ◌∙◌, arith}
+use Rattle.std.proofs.Common.{subst₂, ◌≡◌, ◌⊎◌, inl, inr, ◌<◌, ◌≤◌, ◌+◌, ℕ, List, [], ◌∷◌, ◌++◌, map, take, length, get_or, append_assoc, Ok, Err, IfOk, Result, IsTrue, IsErr, refl, sym, ap, subst, ◌∙◌, arith}
 use Rattle.std.proofs.lemmas.List.{map-append, take_more}
+use Rattle.std.proofs.lemmas.Result.{IfOk-from_err, on_ok_weaker}
 use Rattle.sqlite.specs.Effect.{Database}
-use Rattle.sqlite.specs.Held.{Held, state}
+pub use Rattle.sqlite.specs.Held.{Held, state}
 use Rattle.sqlite.specs.Order.{Row}
 use Rattle.sqlite.specs.Store.{Ghosts}
 use Rattle.sqlite.specs.declared.error.Error.{Error}
-use Rattle.sqlite.specs.State.{State, ExecutesInside, Executes, HasCleanDisk, IsUnchanged, IsRolledBack, Survives}
+use Rattle.sqlite.specs.State.{State, Executes, HasCleanDisk, IsUnchanged, IsRolledBack, Survives}
 use Rattle.sqlite.specs.Tree.{Trees}
 use Rattle.bor_store_sql.specs.Changing.{Any}
 use Rattle.bor_store_sql.specs.Moving.{PutsPeriods}
@@ -31,37 +32,16 @@ no_more old new survives clean trees left = elim (survives.crash clean trees lef
 pub was_clean : (old new : State) (Commits : Trees → Type 0) → Survives old new Commits → HasCleanDisk new → HasCleanDisk old
 was_clean old new Commits survives clean = no_less _ _ survives.clean clean
 
-how_ended : (sql : List ℕ) (params : Row) (old new : State) (e : Error) → ExecutesInside 0 sql params old new (Err e) → IsUnchanged old new ⊎ IsRolledBack old new
-how_ended sql params old new e (inl h) = h.1
-how_ended sql params old new e (inr h) = inl h.2
-
-module _ (sql : List ℕ) (params : Row) (old new : State) (survives : Survives old new (λ _. ⊥)) where
-  pub ran_well : (count : ℕ) → (HasCleanDisk new → IsTrue old.in_transaction → ExecutesInside 0 sql params old new (Ok count)) → Ran sql params old new (Ok (tt {0}))
-  ran_well count h = record {
-    clean = was_clean old new (λ _. ⊥) survives;
-    stops = no_more old new survives;
-    inside = λ clean inside. (count, h clean inside);
-    opened = λ clean inside. (h clean inside).1.was_open;
-  }
-
-  pub ran_badly : (e : Error) (result : Result (Unit {0}) Error) → (HasCleanDisk new → IsTrue old.in_transaction → ExecutesInside 0 sql params old new (Err e)) → IsErr result → Ran sql params old new result
-  ran_badly e (Ok x) h err = absurd (true≢false (sym err))
-  ran_badly e (Err why) h err = record {
-    clean = was_clean old new (λ _. ⊥) survives;
-    stops = no_more old new survives;
-    inside = λ clean inside. how_ended sql params old new e (h clean inside);
-    opened = λ clean inside. tt;
-  }
-
 -- ---- one statement
 
-ended_open : (old new : State) → IsUnchanged old new ⊎ IsRolledBack old new → IsTrue new.is_open → IsTrue old.is_open
-ended_open old new (inl k) up = k.0.was_open
-ended_open old new (inr k) up = k.was_open up
+-- what is left by a failure, which may have ended the transaction
+pub record Left (old new : State) : Type 0 where
+  pub was_open : IsTrue new.is_open → IsTrue old.is_open
+  pub committed : IsTrue new.is_open → new.committed ≡ old.committed
 
-ended_committed : (old new : State) → IsUnchanged old new ⊎ IsRolledBack old new → IsTrue new.is_open → new.committed ≡ old.committed
-ended_committed old new (inl k) up = k.0.committed_is
-ended_committed old new (inr k) up = (k.undone up).1
+pub left : (old new : State) → IsUnchanged old new ⊎ IsRolledBack old new → Left old new
+left old new (inl h) = record { was_open = λ up. h.0.was_open; committed = λ up. h.0.committed_is }
+left old new (inr h) = record { was_open = h.was_open; committed = λ up. (h.undone up).1 }
 
 one_move : (Makes : Database → Database → Type 0) (sql : List ℕ) (params : Row) (old new : State) (result : Result (Unit {0}) Error) → RunsInside sql params old new result
     → ((count : ℕ) → Executes sql params old new (Ok count) → Makes old.now new.now) → Moved Makes old new result
@@ -71,7 +51,7 @@ one_move Makes sql params old new (Ok x) h does = record {
   goes_on = h.1.1.mode;
   made = does h.0 h.1.0;
 }
-one_move Makes sql params old new (Err e) h does = record { was_open = ended_open old new h; committed = ended_committed old new h; goes_on = tt; made = tt }
+one_move Makes sql params old new (Err e) h does = record { was_open = (left old new h).was_open; committed = (left old new h).committed; goes_on = tt; made = tt }
 
 -- a statement that goes well makes this of the database
 abbrev pub Making : List ℕ → Row → (Database → Database → Type 0) → Type 1
@@ -87,21 +67,6 @@ moves_by {Makes} {sql} {old = old} {new} {result} ran is does = record {
 
 -- ---- one after the other
 
-both_moved : (First Then All : Database → Database → Type 0) (old mid new : State) (result : Result (Unit {0}) Error) → (First old.now mid.now → Then mid.now new.now → All old.now new.now)
-    → Moved First old mid (Ok (tt {0})) → Moved Then mid new result → Moved All old new result
-both_moved First Then All old mid new (Ok x) chain one two = record {
-  was_open = λ up. one.was_open (two.was_open up);
-  committed = λ up. two.committed up ∙ one.committed (two.was_open up);
-  goes_on = two.goes_on;
-  made = chain one.made two.made;
-}
-both_moved First Then All old mid new (Err e) chain one two = record {
-  was_open = λ up. one.was_open (two.was_open up);
-  committed = λ up. two.committed up ∙ one.committed (two.was_open up);
-  goes_on = tt;
-  made = tt;
-}
-
 -- one that went well, and another, which may fail
 pub both_move : (First Then All : Database → Database → Type 0) (old mid new : State) (result : Result (Unit {0}) Error) → (First old.now mid.now → Then mid.now new.now → All old.now new.now)
     → MovesTo First old mid (Ok (tt {0})) → MovesTo Then mid new result → MovesTo All old new result
@@ -110,7 +75,13 @@ both_move First Then All old mid new result chain one two = record {
   stops = λ clean trees left. one.stops (two.clean clean) trees (two.stops clean trees left);
   inside = λ clean inside.
       let first = one.inside (two.clean clean) inside in
-      both_moved First Then All old mid new result chain first (two.inside clean first.goes_on);
+      let second = two.inside clean first.goes_on in
+      record {
+        was_open = λ up. first.was_open (second.was_open up);
+        committed = λ up. second.committed up ∙ first.committed (second.was_open up);
+        goes_on = second.goes_on;
+        made = on_ok_weaker result (chain first.made) second.made;
+      };
 }
 
 -- a failure makes nothing, whatever was to be made
@@ -120,48 +91,23 @@ fails {All = All} {old} {new} {result = result} err one = record {
   stops = one.stops;
   inside = λ clean inside.
       let moved = one.inside clean inside in
-      go result err moved.was_open moved.committed;
+      record { was_open = moved.was_open; committed = moved.committed; goes_on = IfOk-from_err result _ err; made = IfOk-from_err result _ err };
 }
-  where
-    go : (result : Result (Unit {0}) Error) → IsErr result → (IsTrue new.is_open → IsTrue old.is_open) → (IsTrue new.is_open → new.committed ≡ old.committed) → Moved All old new result
-    go (Ok x) err was_open committed = absurd (true≢false (sym err))
-    go (Err e) err was_open committed = record { was_open = was_open; committed = committed; goes_on = tt; made = tt }
-
-abbrev Whatever : Database → Database → Type 0
-Whatever old new = Unit {0}
-
--- one that went well, and another that failed
-pub then_fails : {First Then All : Database → Database → Type 0} {old mid new : State} {done result : Result (Unit {0}) Error} → IsErr result → MovesTo First old mid (Ok (tt {0})) → MovesTo Then mid new done → MovesTo All old new result
-then_fails {First} {Then} {old = old} {mid} {new} {done} err one two = fails err (both_move First Then Whatever old mid new done (λ a b. tt {0}) one two)
 
 -- what was made, in other words
 pub in_other_words : (Makes All : Database → Database → Type 0) (old new : State) (result : Result (Unit {0}) Error) → (Makes old.now new.now → All old.now new.now) → MovesTo Makes old new result → MovesTo All old new result
-in_other_words Makes All old new (Ok x) turn one = record {
+in_other_words Makes All old new result turn one = record {
   clean = one.clean;
   stops = one.stops;
   inside = λ clean inside.
       let moved = one.inside clean inside in
-      record { was_open = moved.was_open; committed = moved.committed; goes_on = moved.goes_on; made = turn moved.made };
+      record { was_open = moved.was_open; committed = moved.committed; goes_on = moved.goes_on; made = on_ok_weaker result turn moved.made };
 }
-in_other_words Makes All old new (Err e) turn one = fails {Then = Makes} refl one
 
 -- what is known of all that went well
 pub with_known : (P : Type 0) (Makes : Database → Database → Type 0) (old new : State) (result : Result (Unit {0}) Error) → IfOk result (λ x. P) → MovesTo Makes old new result → MovesTo (λ was is. Makes was is × P) old new result
 with_known P Makes old new (Ok x) known one = in_other_words Makes (λ was is. Makes was is × P) old new (Ok x) (λ made. (made, known)) one
 with_known P Makes old new (Err e) known one = fails {Then = Makes} refl one
-
--- nothing is done
-pub none_moves : {Makes : Database → Database → Type 0} {old : State} → Makes old.now old.now → MovesTo Makes old old (Ok (tt {0}))
-none_moves {old = old} same = record {
-  clean = λ clean. clean;
-  stops = λ clean trees left. left;
-  inside = λ clean inside. record {
-    was_open = λ up. up;
-    committed = λ up. λ i. old.committed;
-    goes_on = inside;
-    made = same;
-  };
-}
 
 -- ---- texts, one after the other
 
@@ -204,8 +150,7 @@ each_clean g (text ∷ texts) params old new result (inr (e, ran, err)) clean = 
 -- ---- on a connection that was open
 
 pub err_open : (old new : State) (result : Result (Unit {0}) Error) → IsErr result → RanOpenIn old new result
-err_open old new (Ok x) err = absurd (true≢false (sym err))
-err_open old new (Err e) err = λ clean inside. tt
+err_open old new result err clean inside = IfOk-from_err result _ err
 
 -- the first went well
 pub first_open : (old mid new : State) (result : Result (Unit {0}) Error) → RanOpenIn old mid (Ok (tt {0})) → (HasCleanDisk new → HasCleanDisk mid) → RanOpenIn old new result
@@ -237,10 +182,6 @@ one_more {f} {g} {h} {old} {mid} {new} same one two = both_move (ChangesContents
 pub turned : {fits : Contents → Type 0} {f h : Contents → Contents} {old new : State} {result : Result (Unit {0}) Error} → ((t : Contents) → f t ≡ h t) → StepsTo fits f old new result → StepsTo fits h old new result
 turned {fits} {f} {h} {old} {new} {result} same one = in_other_words (ChangesContents fits f) (ChangesContents fits h) old new result (λ to_f t has fit. subst (λ x. Has x new.now) (same t) (to_f t has fit)) one
 
--- nothing is a change that leaves the rows
-pub left_so : (h : Contents → Contents) (db : Database) → ((t : Contents) → t ≡ h t) → ChangesContents Any h db db
-left_so h db same t has fit = subst (λ x. Has x db) (same t) has
-
 -- ---- periods, one after the other
 
 -- one row more of a list that is put down
@@ -248,9 +189,6 @@ one_more_of : {X Y : Type 0} (f : X → Y) (rows : List Y) (i : ℕ) (xs : List 
 one_more_of f rows i xs x lt is =
     append_assoc rows (map f (take i xs)) (f x ∷ [])
     ∙ ap (λ l. rows ++ l) (sym (map-append f (take i xs) (x ∷ [])) ∙ ap (map f) (ap (λ y. take i xs ++ y ∷ []) is ∙ sym (take_more xs i x lt)))
-
-pub no_periods_put : (db : Database) → PutsPeriods [] db db
-no_periods_put db t has = subst (λ l. Has (record t { periods = l }) db) (sym (append-nil t.periods)) has
 
 pub one_more_period : (i : ℕ) (ps : List PeriodRow) (p : PeriodRow) (old now new : Database) → i < length ps → p ≡ get_or ps i p → PutsPeriods (take i ps) old now → PutsPeriods (p ∷ []) now new → PutsPeriods (take (i + 1) ps) old new
 one_more_period i ps p old now new lt is first next t has =

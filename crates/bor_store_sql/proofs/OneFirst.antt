@@ -1,6 +1,5 @@
 -- Tables of version 1 tell all of a register but the days of its interests.
-use Rattle.std.proofs.Common.{◌≡◌, ℕ, List, [], ◌∷◌, ◌++◌, map, refl, sym, ap, ap₂, subst, ◌∙◌, ◌+◌}
-use Rattle.std.specs.List.{flat_map}
+use Rattle.std.proofs.Common.{◌≡◌, ℕ, List, [], ◌∷◌, ◌++◌, map, refl, sym, ap, ap₂, subst, ◌∙◌, ◌+◌, flat_map}
 use Rattle.std.proofs.lemmas.List.{map-append}
 use Rattle.std.proofs.lemmas.List.Concat.{flat_map-append}
 use Rattle.sqlite.specs.Effect.{Database}
@@ -20,7 +19,7 @@ use Rattle.bor_store_sql.specs.Undated.{undated, undated_details, undated_filing
 use Rattle.bor_store_sql.specs.declared.rows.places.At.{At}
 use Rattle.bor_store_sql.specs.declared.rows.typed.Placed.{Placed}
 use Rattle.bor_store_sql.proofs.OneRegister.{AreUp, one_list, one_row}
-use Rattle.bor_store_sql.proofs.PeriodReads.{all_interests}
+use Rattle.bor_store_sql.proofs.Selecting.{all_interests}
 use Rattle.sqlite_keyed.proofs.ListLemmas.{flat_map-map, flat_map_same_on, map-map, map_same}
 use Rattle.bor_store_sql.proofs.Finding.{lists_of_first}
 

@@ -1,6 +1,5 @@
 -- The rows of a database are those of one register at most.
-use Rattle.std.proofs.Common.{◌≡◌, ℕ, ℤ, zero, suc, pos, ◌+◌, List, [], ◌∷◌, ◌++◌, map, filter, refl, sym, ap, ap₂, subst, ◌∙◌, arith, IsPermutation, IsSorted}
-use Rattle.std.specs.List.{flat_map}
+use Rattle.std.proofs.Common.{◌≡◌, ℕ, ℤ, zero, suc, pos, ◌+◌, List, [], ◌∷◌, ◌++◌, map, filter, refl, sym, ap, ap₂, subst, ◌∙◌, arith, IsPermutation, IsSorted, flat_map}
 use Rattle.std.specs.Ordering.{is_lt, ordering_reverse}
 use Rattle.std.proofs.lemmas.List.{map-append}
 use Rattle.std.proofs.lemmas.List.Sorted.{IsPermutation-trans, IsPermutation-sym}
@@ -21,14 +20,13 @@ use Rattle.bor_store_sql.specs.Rows.Encoding.{agent_columns, contents, filing_co
 use Rattle.bor_store_sql.specs.Rows.Placed.{agent_row, bare, identifier_rows, interest_rows, interest_line, period_rows, placed, register_row}
 use Rattle.bor_store_sql.specs.Rows.Stored.{AllNumbered, IsStored}
 use Rattle.bor_store_sql.specs.Shown.{Has, HasLists, ShowsIn}
-use Rattle.bor_store_sql.specs.declared.rows.typed.InterestRow.{InterestRow}
 use Rattle.bor_store_sql.specs.declared.rows.typed.RegisterRow.{RegisterRow}
 use Rattle.bor_store_sql.proofs.OnRows.Apart.{all_apart}
 use Rattle.bor_store_sql.proofs.OnRows.Decoded.{agent_in, filed, filing_back, filing_in, identifier_back, identifier_in, line_back, line_in, period_back, period_in, register_in, same_values, statement_back, statement_in}
 use Rattle.bor_store_sql.proofs.OnRows.Once.{all_filed, same_joined, same_members, same_timed}
 use Rattle.bor_store_sql.proofs.OnRows.Timings.{all_several}
 use Rattle.bor_store_sql.proofs.Orders.{IsInterestBefore, IsLower, agents_rise, filing_rows_are, identifier_rows_rise, interest_rows_rise, owned, owned_rise, placed_rise, up, whole}
-use Rattle.bor_store_sql.proofs.PeriodReads.{all_interests, day_columns, is_said, listed, table_is}
+use Rattle.bor_store_sql.proofs.Selecting.{all_interests, day_columns, is_said, listed, table_is}
 use Rattle.bor_store_sql.proofs.Finding.{lists_of}
 
 -- ---- the rows of one table
@@ -67,15 +65,6 @@ filed_are (m ∷ ms) =
     map-append filing_in (map (filing_columns m.name) m.filings) (filing_rows ms)
     ∙ ap₂ (λ x l. x ++ l) (map-map filing_in (filing_columns m.name) m.filings ∙ map_same (λ f. filing_in (filing_columns m.name f)) (filed m.name) (filing_back m.name) m.filings) (filed_are ms)
 
-rows_of : (ms : List Member) → map (λ p. statement_columns (bare p)) (placed ms) ≡ map statement_columns (map bare (placed ms))
-rows_of ms = sym (map-map statement_columns bare (placed ms))
-
-lines_are : (is : List InterestRow) → map interest_columns is ≡ map interest_line_columns (map interest_line is)
-lines_are is = sym (map-map interest_line_columns interest_line is)
-
-agents_are : (ms : List Member) → map agent_in (map agent_columns ms) ≡ map agent_row ms
-agents_are ms = map-map agent_in agent_columns ms
-
 -- the row of the register in a version
 pub one_row : (version : ℤ) (a b : RegisterRow) (rows : List Row) → Keeps (versioned_columns version a ∷ []) rows → Keeps (versioned_columns version b ∷ []) rows → a ≡ b
 one_row version a b rows keeps keeps_too =
@@ -92,10 +81,10 @@ AreUp r = IsOrdered r.members × AllNumbered r.members
 module _ (r q : Register) (db : Database) (rise : AreUp r) (rise_too : AreUp q) (has : HasLists (contents r) db) (has_too : HasLists (contents q) db) where
   agents : map agent_row r.members ≡ map agent_row q.members
   agents =
-      sym (agents_are r.members)
+      sym (map-map agent_in agent_columns r.members)
       ∙ ap (map agent_in) (same_rows (up ∷ []) (map agent_columns r.members) (map agent_columns q.members) (db.trees 2)
       (ascending-map (IsLower (up ∷ [])) agent_columns r.members (agents_rise r.members rise.0)) (ascending-map (IsLower (up ∷ [])) agent_columns q.members (agents_rise q.members rise_too.0)) has.agents has_too.agents)
-      ∙ agents_are q.members
+      ∙ map-map agent_in agent_columns q.members
 
   filings_up : (s : Register) → AreUp s → IsAscending (IsLower (up ∷ up ∷ [])) (filing_rows s.members)
   filings_up s is = subst (IsAscending (IsLower (up ∷ up ∷ []))) (sym (filing_rows_are s.members)) (ascending-map (IsLower (up ∷ up ∷ [])) whole (owned s.members) (owned_rise s.members is.0 is.1))
@@ -110,7 +99,7 @@ module _ (r q : Register) (db : Database) (rise : AreUp r) (rise_too : AreUp q) 
   statements : map bare (placed r.members) ≡ map bare (placed q.members)
   statements =
       same_values statement_columns statement_in statement_back (map bare (placed r.members)) (map bare (placed q.members))
-      (sym (rows_of r.members) ∙ same_rows (up ∷ up ∷ up ∷ []) (map (λ p. statement_columns (bare p)) (placed r.members)) (map (λ p. statement_columns (bare p)) (placed q.members)) (db.trees 8) (statements_up r rise) (statements_up q rise_too) has.statements has_too.statements ∙ rows_of q.members)
+      (map-map statement_columns bare (placed r.members) ∙ same_rows (up ∷ up ∷ up ∷ []) (map (λ p. statement_columns (bare p)) (placed r.members)) (map (λ p. statement_columns (bare p)) (placed q.members)) (db.trees 8) (statements_up r rise) (statements_up q rise_too) has.statements has_too.statements ∙ sym (map-map statement_columns bare (placed q.members)))
 
   interests_up : (s : Register) → AreUp s → IsAscending (IsLower (up ∷ up ∷ up ∷ up ∷ [])) (contents s).interests
   interests_up s is =
@@ -120,9 +109,9 @@ module _ (r q : Register) (db : Database) (rise : AreUp r) (rise_too : AreUp q) 
   lines : map interest_line (all_interests r.members) ≡ map interest_line (all_interests q.members)
   lines =
       same_values interest_line_columns line_in line_back (map interest_line (all_interests r.members)) (map interest_line (all_interests q.members))
-      (sym (lines_are (all_interests r.members)) ∙ map-flat_map interest_columns interest_rows (placed r.members)
+      (map-map interest_line_columns interest_line (all_interests r.members) ∙ map-flat_map interest_columns interest_rows (placed r.members)
       ∙ same_rows (up ∷ up ∷ up ∷ up ∷ []) (contents r).interests (contents q).interests (db.trees 11) (interests_up r rise) (interests_up q rise_too) has.interests has_too.interests
-      ∙ sym (map-flat_map interest_columns interest_rows (placed q.members)) ∙ lines_are (all_interests q.members))
+      ∙ sym (map-flat_map interest_columns interest_rows (placed q.members)) ∙ sym (map-map interest_line_columns interest_line (all_interests q.members)))
 
   identifiers_up : (s : Register) → AreUp s → IsAscending (IsLower (up ∷ up ∷ up ∷ up ∷ [])) (contents s).identifiers
   identifiers_up s is =

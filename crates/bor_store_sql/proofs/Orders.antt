@@ -1,36 +1,109 @@
--- The rows of each table rise by its primary key.
-use Rattle.std.proofs.Common.{◌≡◌, ℕ, ℤ, pos, ◌+◌, ◌<◌, true, List, [], ◌∷◌, ◌++◌, map, refl, sym, ap₂, ◌∙◌, arith, Less, Equal, Greater}
+-- The rows of a register rise by the primary key of each table, and those of one agent and of one statement are together.
+use Rattle.std.proofs.Common.{◌≡◌, ℕ, ◌+◌, ◌<◌, true, List, [], ◌∷◌, ◌++◌, map, refl, sym, ap, subst, ◌∙◌, arith, ℤ, pos, ap₂, Less, Equal, Greater, Bool, false, ◌&&◌, ◌==◌, filter, inl, inr}
 use Rattle.std.specs.List.{AllByRecursion, flat_map}
-use Rattle.std.specs.Ordering.{is_lt, nat_cmp, ordering_then}
+use Rattle.sqlite.specs.Tree.{IsAscending}
+use Rattle.sqlite_keyed.proofs.ListLemmas.{all-append, all_weaker, all_both, all_of, ascending-append, all-map, map-map, all-flat_map, flat_map_same_on, map-flat_map, filter-map, filter_all, filter_none}
+use Rattle.bor_terms.specs.Texts.{is_below, is_same}
+use Rattle.bods_read.specs.declared.statement.Statement.{Statement}
+use Rattle.bor_register.specs.declared.filing.AcceptedFiling.{AcceptedFiling}
+use Rattle.bor_register.specs.declared.member.Member.{Member}
+use Rattle.bor_register.specs.Register.{IsOrdered, AllAbove, filings_of}
+use Rattle.bor_store_sql.specs.declared.rows.places.At.{At}
+use Rattle.bor_store_sql.specs.declared.rows.typed.Placed.{Placed}
+use Rattle.bor_store_sql.specs.Rows.Placed.{placed_from, placed_by, placed, interest_rows, identifier_rows, interests_from, identifiers_from, interests_listed, identifiers_listed, same_place, filing_row, filing_lines, period_of, period_rows}
+use Rattle.bor_store_sql.specs.Rows.Stored.{AreNumbered, AllNumbered}
+use Rattle.bor_store_sql.specs.Fitting.{standing}
+use Rattle.bor_store_sql.proofs.OnRows.Each.{each_by, each_from, each_own, each_identifier, each_interest, all_said}
+use Rattle.std.specs.Ordering.{is_lt, nat_cmp, ordering_then, is_eq, int_cmp}
 use Rattle.std.specs.declared.cmp.Ordering.{Ordering}
 use Rattle.std.specs.Cmp.Lexicographic.{slice_cmp}
 use Rattle.std.proofs.lemmas.Cmp.{tied_itself}
 use Rattle.std.proofs.lemmas.List.{map-append}
 use Rattle.sqlite.specs.declared.types.Value.TheVariants.{Int, Text}
 use Rattle.sqlite.specs.Order.{Row, value_cmp}
-use Rattle.sqlite.specs.Tree.{IsAscending}
 use Rattle.sqlite.specs.Collation.TheVariants.{Binary}
 use Rattle.sqlite_sql.specs.Query.{key_cmp}
 use Rattle.sqlite_value.specs.declared.keys.Key.{Key}
 use Rattle.sqlite_value.specs.Keys.{ascending}
 use Rattle.sqlite_value.proofs.OrderLemmas.{value_cmp-Text, value_cmp_total}
-use Rattle.sqlite_keyed.proofs.ListLemmas.{all-map, map-map}
-use Rattle.bor_terms.specs.Texts.{is_below}
 use Rattle.bods_read.specs.declared.details.Identifier.{Identifier}
 use Rattle.bods_read.specs.declared.interest.Interest.{Interest}
-use Rattle.bor_register.specs.declared.filing.AcceptedFiling.{AcceptedFiling}
-use Rattle.bor_register.specs.declared.member.Member.{Member}
-use Rattle.bor_register.specs.Register.{IsOrdered, AllAbove}
-use Rattle.bor_store_sql.specs.declared.rows.places.At.{At}
-use Rattle.bor_store_sql.specs.declared.rows.typed.Placed.{Placed}
 use Rattle.bor_store_sql.specs.declared.rows.typed.InterestRow.{InterestRow}
 use Rattle.bor_store_sql.specs.declared.rows.typed.IdentifierRow.{IdentifierRow}
-use Rattle.bor_store_sql.specs.Rows.Placed.{placed_by, placed, interest_rows, identifier_rows, interests_from, identifiers_from, interests_listed, identifiers_listed}
-use Rattle.bor_store_sql.specs.Rows.Encoding.{filing_columns, filing_rows}
-use Rattle.bor_store_sql.specs.Rows.Stored.{AllNumbered}
-use Rattle.bor_store_sql.proofs.Rowids.{lower_id}
-use Rattle.bor_store_sql.proofs.Rising.{members_rise, lists_rise, filings_rise, statements_rise, owned_by}
-use Rattle.bor_store_sql.proofs.OnRows.Each.{each_identifier, each_interest}
+use Rattle.bor_store_sql.specs.Rows.Encoding.{filing_columns, filing_rows, line_columns, period_columns}
+use Rattle.bor_store_sql.proofs.Tables.{lower_id, are_equal, text_test, int_test}
+use Rattle.std.proofs.lemmas.Int.{ints}
+use Rattle.std.proofs.lemmas.Bool.{cases_Bool}
+use Rattle.std.proofs.lemmas.Bool.Decides.{nat_tests}
+use Rattle.std.proofs.Math.Bool.{and-false, and-true}
+use Rattle.std.proofs.lemmas.List.Elements.{filter-append}
+use Rattle.bor_store_sql.specs.declared.rows.typed.PeriodRow.{PeriodRow}
+use Rattle.bor_store_sql.specs.Changing.{days_of}
+use Rattle.bor_store_sql.proofs.Members.{own_alone}
+use Rattle.bor_store_sql.proofs.Picking.{filter_both}
+
+-- ---- agent by agent, rows rise where each agent's do
+
+module _ {X : Type 0} (R : X → X → Type 0) (own : List ℕ → List AcceptedFiling → List X) (all : List Member → List X) (none : all [] ≡ []) (some : (m : Member) (ms : List Member) → all (m ∷ ms) ≡ own m.name m.filings ++ all ms)
+    (owner : X → List ℕ) (owned : (name : List ℕ) (fs : List AcceptedFiling) → AllByRecursion (λ x. owner x ≡ name) (own name fs)) (by_name : (x y : X) → is_below (owner x) (owner y) ≡ true → R x y)
+    (own_rise : (name : List ℕ) (fs : List AcceptedFiling) → AreNumbered 1 fs → IsAscending R (own name fs)) where
+  above : (name : List ℕ) (ms : List Member) → AllAbove name ms → AllByRecursion (λ y. is_below name (owner y) ≡ true) (all ms)
+  above name [] up = subst (AllByRecursion (λ y. is_below name (owner y) ≡ true)) (sym none) tt
+  above name (m ∷ ms) up =
+      subst (AllByRecursion (λ y. is_below name (owner y) ≡ true)) (sym (some m ms))
+      (all-append _ (own m.name m.filings) (all ms) (all_weaker (λ x. owner x ≡ m.name) (λ y. is_below name (owner y) ≡ true) (λ x same. ap (is_below name) same ∙ up.0) (own m.name m.filings) (owned m.name m.filings)) (above name ms up.1))
+
+  pub members_rise : (ms : List Member) → IsOrdered ms → AllNumbered ms → IsAscending R (all ms)
+  members_rise [] up numbers = subst (IsAscending R) (sym none) tt
+  members_rise (m ∷ ms) up numbers =
+      subst (IsAscending R) (sym (some m ms))
+      (ascending-append R (own m.name m.filings) (all ms) (own_rise m.name m.filings numbers.0) (members_rise ms up.1 numbers.1)
+      (all_weaker (λ x. owner x ≡ m.name) (λ x. AllByRecursion (R x) (all ms))
+      (λ x same. all_weaker (λ y. is_below m.name (owner y) ≡ true) (R x) (λ y lt. by_name x y (ap (λ n. is_below n (owner y)) same ∙ lt)) (all ms) (above m.name ms up.0)) (own m.name m.filings) (owned m.name m.filings)))
+
+-- lists that each rise, of elements that rise
+module _ {A X : Type 0} (P : A → A → Type 0) (R : X → X → Type 0) (rows : A → List X) (within : (a : A) → IsAscending R (rows a)) (across : (a b : A) → P a b → AllByRecursion (λ x. AllByRecursion (R x) (rows b)) (rows a)) where
+  before_rows : (a : A) (bs : List A) → AllByRecursion (P a) bs → AllByRecursion (λ x. AllByRecursion (R x) (flat_map rows bs)) (rows a)
+  before_rows a [] h = all_of (λ x. Unit {0}) (λ x. tt) (rows a)
+  before_rows a (b ∷ bs) h = all_both (λ x. AllByRecursion (R x) (rows b)) (λ x. AllByRecursion (R x) (flat_map rows bs)) _ (λ x one more. all-append (R x) (rows b) (flat_map rows bs) one more) (rows a) (across a b h.0) (before_rows a bs h.1)
+
+  pub lists_rise : (xs : List A) → IsAscending P xs → IsAscending R (flat_map rows xs)
+  lists_rise [] up = tt
+  lists_rise (a ∷ xs) up = ascending-append R (rows a) (flat_map rows xs) (within a) (lists_rise xs up.1) (before_rows a xs up.0)
+
+-- ---- an agent's filings
+
+module _ {X : Type 0} (R : X → X → Type 0) (make : AcceptedFiling → X) (by_number : (f g : AcceptedFiling) → f.number < g.number → R (make f) (make g)) where
+  later : (f : AcceptedFiling) (n : ℕ) (fs : List AcceptedFiling) → f.number < n → AreNumbered n fs → AllByRecursion (R (make f)) (map make fs)
+  later f n [] lt up = tt
+  later f n (g ∷ fs) lt up = (by_number f g (let e = up.0 in omega (arith, e, lt)), later f (n + 1) fs (omega (arith, lt)) up.1)
+
+  pub filings_rise : (n : ℕ) (fs : List AcceptedFiling) → AreNumbered n fs → IsAscending R (map make fs)
+  filings_rise n [] up = tt
+  filings_rise n (f ∷ fs) up = (later f (n + 1) fs (let e = up.0 in omega (arith, e)) up.1, filings_rise (n + 1) fs up.1)
+
+-- ---- an agent's statements
+
+module _ (R : At → At → Type 0) (by_number : (name : List ℕ) (m n i j : ℕ) → m < n → R (record { agent = name; filing = m; place = i }) (record { agent = name; filing = n; place = j }))
+    (by_place : (name : List ℕ) (n i j : ℕ) → i < j → R (record { agent = name; filing = n; place = i }) (record { agent = name; filing = n; place = j })) where
+  abbrev Up : Placed → Placed → Type 0
+  Up p q = R p.at q.at
+
+  from_rise : (name : List ℕ) (filing n : ℕ) (ss : List Statement) → IsAscending Up (placed_from name filing n ss)
+  from_rise name filing n [] = tt
+  from_rise name filing n (s ∷ ss) = (each_from (Up (standing name filing n s)) name filing (n + 1) ss (λ place t low. by_place name filing n place (omega (arith, low))), from_rise name filing (n + 1) ss)
+
+  pub statements_rise : (name : List ℕ) (n : ℕ) (fs : List AcceptedFiling) → AreNumbered n fs → IsAscending Up (placed_by name fs)
+  statements_rise name n [] up = tt
+  statements_rise name n (f ∷ fs) up =
+      ascending-append Up (placed_from name f.number 1 f.statements) (placed_by name fs) (from_rise name f.number 1 f.statements) (statements_rise name (n + 1) fs up.1)
+      (each_from (λ p. AllByRecursion (Up p) (placed_by name fs)) name f.number 1 f.statements
+      (λ place s from. each_by (Up (standing name f.number place s)) name (n + 1) fs up.1 (λ filing other t low. by_number name f.number filing place other (let e = up.0 in omega (arith, e, low)))))
+
+pub owned_by : (name : List ℕ) (fs : List AcceptedFiling) → AllByRecursion (λ (p : Placed). p.at.agent ≡ name) (placed_by name fs)
+owned_by name fs = each_own (λ p. p.at.agent ≡ name) name fs (λ filing place s. refl)
+
+-- ---- the rows of each table rise by its primary key
 
 less_is : (o : Ordering) → is_lt o ≡ true → o ≡ Less
 less_is Less e = refl
@@ -174,3 +247,84 @@ identifier_rows_rise ms names numbers =
     lists_rise IsPlacedBefore IsIdentifierBefore identifier_rows (λ p. identifiers_rise p.at 1 (identifiers_listed p.statement.details))
     (λ p q lt. each_identifier (λ x. AllByRecursion (IsIdentifierBefore x) (identifier_rows q)) p.at 1 (identifiers_listed p.statement.details)
     (λ m i from. each_identifier (IsIdentifierBefore (record { at = p.at; item = m; identifier = i })) q.at 1 (identifiers_listed q.statement.details) (λ n j first. at_lower_place p.at q.at m n lt))) (placed ms) (placed_rise ms names numbers)
+
+-- ---- the rows of one agent, and those of one statement
+
+pub number_test : (m n : ℕ) → is_eq (int_cmp (pos m) (pos n)) ≡ (m == n)
+number_test m n = grind (arith, ints, nat_tests)
+
+-- ---- those of one agent
+
+module _ (agent : List ℕ) (ms : List Member) (names : IsOrdered ms) where
+  pub own_owned : filter (λ (o : Owned). is_same o.agent agent) (owned ms) ≡ map (owned_filing agent) (filings_of agent ms)
+  own_owned = own_alone (λ name fs. map (owned_filing name) fs) owned refl (λ m rest. refl) (λ (o : Owned). o.agent) owners (λ name. refl) agent ms names
+
+  pub own_filings : (q : AcceptedFiling → Bool) (out : Owned → Row) → map out (filter (λ (o : Owned). is_same o.agent agent && q o.filing) (owned ms)) ≡ map (λ f. out (owned_filing agent f)) (filter q (filings_of agent ms))
+  own_filings q out =
+      ap (map out) (filter_both (λ (o : Owned). is_same o.agent agent) (λ (o : Owned). q o.filing) (owned ms) ∙ ap (filter (λ (o : Owned). q o.filing)) own_owned ∙ filter-map (λ (o : Owned). q o.filing) (owned_filing agent) (filings_of agent ms))
+      ∙ map-map out (owned_filing agent) (filter q (filings_of agent ms))
+
+  own_placed : filter (λ (p : Placed). is_same p.at.agent agent) (placed ms) ≡ placed_by agent (filings_of agent ms)
+  own_placed = own_alone placed_by placed refl (λ m rest. refl) (λ (p : Placed). p.at.agent) owned_by (λ name. refl) agent ms names
+
+  pub own_statements : (q : Placed → Bool) → filter (λ (p : Placed). is_same p.at.agent agent && q p) (placed ms) ≡ filter q (placed_by agent (filings_of agent ms))
+  own_statements q = filter_both (λ (p : Placed). is_same p.at.agent agent) q (placed ms) ∙ ap (filter q) own_placed
+
+lines_of : (name : List ℕ) (fs : List AcceptedFiling) → map (λ (o : Owned). line_columns (filing_row o.agent o.filing)) (map (owned_filing name) fs) ≡ map line_columns (map (filing_row name) fs)
+lines_of name fs = map-map (λ (o : Owned). line_columns (filing_row o.agent o.filing)) (owned_filing name) fs ∙ sym (map-map line_columns (filing_row name) fs)
+
+pub lines_are : (ms : List Member) → map (λ (o : Owned). line_columns (filing_row o.agent o.filing)) (owned ms) ≡ map line_columns (filing_lines ms)
+lines_are [] = refl
+lines_are (m ∷ ms) =
+    map-append (λ (o : Owned). line_columns (filing_row o.agent o.filing)) (map (owned_filing m.name) m.filings) (owned ms) ∙ ap₂ (λ x y. x ++ y) (lines_of m.name m.filings) (lines_are ms)
+    ∙ sym (map-append line_columns (map (filing_row m.name) m.filings) (filing_lines ms))
+
+-- ---- those of one statement
+
+abbrev pub place_params : At → Row
+place_params at = Text at.agent ∷ Int (pos at.filing) ∷ Int (pos at.place) ∷ []
+
+-- the first three columns are those of the place
+pub place_test : (a b : At) → (are_equal (Text a.agent) (Text b.agent) && (are_equal (Int (pos a.filing)) (Int (pos b.filing)) && (are_equal (Int (pos a.place)) (Int (pos b.place)) && true))) ≡ same_place a b
+place_test a b =
+    ap₂ (λ x y. x && y) (text_test a.agent b.agent) (ap₂ (λ x y. x && y) (int_test (pos a.filing) (pos b.filing) ∙ number_test a.filing b.filing) (and-true _ ∙ int_test (pos a.place) (pos b.place) ∙ number_test a.place b.place))
+    ∙ turned (is_same a.agent b.agent) (a.filing == b.filing) (a.place == b.place)
+  where
+    turned : (x y z : Bool) → x && (y && z) ≡ y && (z && x)
+    turned true y z = ap (λ b. y && b) (sym (and-true z))
+    turned false y z = sym (ap (λ b. y && b) (and-false z) ∙ and-false y)
+
+module _ {X : Type 0} (at_of : X → At) (t : At → Bool) (rows : Placed → List X) (own : (p : Placed) → AllByRecursion (λ x. at_of x ≡ p.at) (rows p)) where
+  passed : (p : Placed) (b : Bool) → t p.at ≡ b → AllByRecursion (λ x. t (at_of x) ≡ b) (rows p)
+  passed p b e = all_weaker (λ x. at_of x ≡ p.at) (λ x. t (at_of x) ≡ b) (λ x same. ap t same ∙ e) (rows p) (own p)
+
+  pub rows_at : (ps : List Placed) → filter (λ x. t (at_of x)) (flat_map rows ps) ≡ flat_map rows (filter (λ (p : Placed). t p.at) ps)
+  rows_at [] = refl
+  rows_at (p ∷ ps) = filter-append (λ x. t (at_of x)) (rows p) (flat_map rows ps) ∙ elim (cases_Bool (t p.at)) [
+    | inl e ↦ rw e (ap₂ (λ x y. x ++ y) (filter_all (λ x. t (at_of x)) (rows p) (passed p true e)) (rows_at ps))
+    | inr e ↦ rw e (ap₂ (λ x y. x ++ y) (filter_none (λ x. t (at_of x)) (rows p) (passed p false e)) (rows_at ps))
+  ]
+
+pub interests_stand : (p : Placed) → AllByRecursion (λ (i : InterestRow). i.at ≡ p.at) (interest_rows p)
+interests_stand p = each_interest (λ i. i.at ≡ p.at) p.at 1 _ (λ item i low. refl)
+
+pub identifiers_stand : (p : Placed) → AllByRecursion (λ (i : IdentifierRow). i.at ≡ p.at) (identifier_rows p)
+identifiers_stand p = each_identifier (λ i. i.at ≡ p.at) p.at 1 _ (λ item i low. refl)
+
+-- ---- the days of its interests
+
+abbrev pub periods_of : Placed → List PeriodRow
+periods_of p = flat_map period_rows (interest_rows p)
+
+pub periods_are : (ps : List Placed) → map period_columns (flat_map periods_of ps) ≡ flat_map (λ p. flat_map days_of (interest_rows p)) ps
+periods_are ps =
+    map-flat_map period_columns periods_of ps
+    ∙ flat_map_same_on (λ p. map period_columns (periods_of p)) (λ p. flat_map days_of (interest_rows p)) (λ p. map-flat_map period_columns period_rows (interest_rows p)) ps
+
+period_stands : (i : InterestRow) → AllByRecursion (λ (q : PeriodRow). q.at ≡ i.at) (period_rows i)
+period_stands i = all_said (λ (q : PeriodRow). q.at ≡ i.at) (period_of i) refl i.interest.starts i.interest.ends
+
+pub periods_stand : (at : At) (is : List InterestRow) → AllByRecursion (λ (i : InterestRow). i.at ≡ at) is → AllByRecursion (λ (q : PeriodRow). q.at ≡ at) (flat_map period_rows is)
+periods_stand at is own =
+    all-flat_map (λ (q : PeriodRow). q.at ≡ at) period_rows is
+    (all_weaker (λ (i : InterestRow). i.at ≡ at) (λ i. AllByRecursion (λ (q : PeriodRow). q.at ≡ at) (period_rows i)) (λ i same. rw (← same) (period_stands i)) is own)

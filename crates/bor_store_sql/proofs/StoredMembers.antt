@@ -1,6 +1,5 @@
 -- Stored members stay in order, numbered, formed and counted.
-use Rattle.std.proofs.Common.{◌≡◌, ℕ, ℤ, ◌+◌, ◌<◌, true, false, List, [], ◌∷◌, ◌++◌, length, arith}
-use Rattle.std.specs.Prelude.{if◌then◌else◌, All}
+use Rattle.std.proofs.Common.{◌≡◌, ℕ, ℤ, ◌+◌, ◌<◌, true, false, List, [], ◌∷◌, ◌++◌, length, arith, if◌then◌else◌, All}
 use Rattle.std.proofs.lemmas.List.Elements.{All-nil, All-cons, All-head, All-tail, All-push}
 use Rattle.bor_terms.specs.Day.{IsDay}
 use Rattle.bor_terms.specs.Texts.{is_same, is_below, is_agent_name, is_lodge_key, is_token}
@@ -10,7 +9,8 @@ use Rattle.bor_register.specs.Limits.{filings_limit}
 use Rattle.bor_register.specs.Live.{accepted}
 use Rattle.bor_register.specs.declared.filing.AcceptedFiling.{AcceptedFiling}
 use Rattle.bor_register.specs.declared.member.Member.{Member}
-use Rattle.bor_register.specs.Register.{Register, is_enrolled, with_filings, filings_of, new_member, with_member}
+use Rattle.bor_register.specs.Forms.{IsFormedMember}
+use Rattle.bor_register.specs.Register.{IsOrdered, Register, is_enrolled, with_filings, filings_of, new_member, with_member}
 use Rattle.bor_register.proofs.Forms.{formed-filings_of, formed-accepted, formed-added, formed-with_filings, formed-new_member, formed-with_member}
 use Rattle.bor_register.proofs.Names.{ordered-with_filings, ordered-with_member}
 use Rattle.bor_store_sql.specs.Rows.Stored.{AreNumbered, AllNumbered, AreCounted, IsStored}
@@ -48,6 +48,10 @@ module _ (agent : List ℕ) where
     | false ↦ All-cons (λ (m : Member). AllCounted m.filings) m (with_filings agent new ms) (All-head (λ (m : Member). AllCounted m.filings) m ms all) (counted_with new ms own (All-tail (λ (m : Member). AllCounted m.filings) m ms all))
   ]
 
+-- a stored register with other members
+pub stored_with : (ms : List Member) (r : Register) → IsStored r → IsOrdered ms → AllNumbered ms → All IsFormedMember ms → All (λ (m : Member). All (λ (f : AcceptedFiling). AreCounted f.statements) m.filings) ms → IsStored (record r { members = ms })
+stored_with ms r s ordered numbered formed counted = record { ordered = ordered; numbered = numbered; formed = record { day = s.formed.day; registrar = s.formed.registrar; members = formed }; counted = counted }
+
 -- ---- a filing is added
 
 numbered_push : (n : ℕ) (fs : List AcceptedFiling) (f : AcceptedFiling) → AreNumbered n fs → f.number ≡ n + length fs → AreNumbered n (fs ++ f ∷ [])
@@ -60,16 +64,10 @@ added_stored agent key due bytes ss r s room is_key is_due are_bytes formed coun
     let own = filings_of agent r.members in
     let f = accepted own key due bytes ss in
     let owned = formed-filings_of agent r.members s.formed.members in
-    record {
-      ordered = ordered-with_filings agent (own ++ f ∷ []) r.members s.ordered;
-      numbered = numbered_with agent (own ++ f ∷ []) r.members (numbered_push 1 own f (numbered_of agent r.members s.numbered) (omega arith)) s.numbered;
-      formed = record {
-        day = s.formed.day;
-        registrar = s.formed.registrar;
-        members = formed-with_filings agent (own ++ f ∷ []) r.members (formed-added own f owned (formed-accepted own key due bytes ss room is_key is_due are_bytes formed)) s.formed.members;
-      };
-      counted = counted_with agent (own ++ f ∷ []) r.members (All-push (λ (g : AcceptedFiling). AreCounted g.statements) own f (counted_of agent r.members s.counted) counted) s.counted;
-    }
+    stored_with (with_filings agent (own ++ f ∷ []) r.members) r s (ordered-with_filings agent (own ++ f ∷ []) r.members s.ordered)
+    (numbered_with agent (own ++ f ∷ []) r.members (numbered_push 1 own f (numbered_of agent r.members s.numbered) (omega arith)) s.numbered)
+    (formed-with_filings agent (own ++ f ∷ []) r.members (formed-added own f owned (formed-accepted own key due bytes ss room is_key is_due are_bytes formed)) s.formed.members)
+    (counted_with agent (own ++ f ∷ []) r.members (All-push (λ (g : AcceptedFiling). AreCounted g.statements) own f (counted_of agent r.members s.counted) counted) s.counted)
 
 -- ---- an agent is added
 
@@ -91,9 +89,7 @@ counted_new new (m ∷ ms) one all = elim (is_below m.name new.name) as (λ b. A
 ]
 
 pub enrolled_stored : (agent token : List ℕ) (r : Register) → IsStored r → is_enrolled agent r.members ≡ false → is_agent_name agent ≡ true → is_token token ≡ true → IsStored (enrolled agent token r)
-enrolled_stored agent token r s fresh is_name is_its = record {
-  ordered = ordered-with_member (new_member agent token) r.members fresh s.ordered;
-  numbered = numbered_new (new_member agent token) r.members tt s.numbered;
-  formed = record { day = s.formed.day; registrar = s.formed.registrar; members = formed-with_member (new_member agent token) r.members (formed-new_member agent token is_name is_its) s.formed.members };
-  counted = counted_new (new_member agent token) r.members (All-nil (λ (f : AcceptedFiling). AreCounted f.statements)) s.counted;
-}
+enrolled_stored agent token r s fresh is_name is_its =
+    let new = new_member agent token in
+    stored_with (with_member new r.members) r s (ordered-with_member new r.members fresh s.ordered) (numbered_new new r.members tt s.numbered)
+    (formed-with_member new r.members (formed-new_member agent token is_name is_its) s.formed.members) (counted_new new r.members (All-nil (λ (f : AcceptedFiling). AreCounted f.statements)) s.counted)

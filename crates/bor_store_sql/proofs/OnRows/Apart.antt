@@ -1,8 +1,7 @@
 -- No two statements of a stored register stand at one place.
-use Rattle.std.proofs.Common.{◌≡◌, ℕ, ◌+◌, ◌==◌, Bool, true, false, List, [], ◌∷◌, ◌++◌, refl, ◌∙◌, arith}
+use Rattle.std.proofs.Common.{◌≡◌, ℕ, ◌+◌, ◌==◌, Bool, true, false, List, [], ◌∷◌, ◌++◌, refl, ◌∙◌, arith, filter, if◌then◌else◌}
 use Rattle.std.specs.List.{AllByRecursion}
 use Rattle.std.proofs.Math.Bool.{and-false}
-use Rattle.std.specs.Prelude.{filter, if◌then◌else◌}
 use Rattle.sqlite_keyed.proofs.ListLemmas.{all-append, all-filter}
 use Rattle.bor_terms.specs.Texts.{is_same}
 use Rattle.bor_terms.proofs.Texts.{same_sym, below_differs}
@@ -52,14 +51,8 @@ all_apart (m ∷ ms) up all =
     (each_own (λ p. AllOff p.at (placed ms)) m.name m.filings
     (λ filing place s. each_above (λ q. same_place q.at (standing m.name filing place s).at ≡ false) m.name ms up.0 (λ agent number other t below. off_name (standing agent number other t).at (standing m.name filing place s).at (same_sym agent m.name ∙ below_differs m.name agent below))))
 
-off_filter : (at : At) (q : Placed → Bool) (ps : List Placed) → AllOff at ps → AllOff at (filter q ps)
-off_filter at q ps h = all-filter (λ (p : Placed). same_place p.at at ≡ false) q ps h
-
 -- neither do some of them
 pub apart_filter : (q : Placed → Bool) (ps : List Placed) → AreApart ps → AreApart (filter q ps)
 apart_filter q [] h = tt
-apart_filter q (p ∷ ps) h = go (q p) (off_filter p.at q ps h.0) (apart_filter q ps h.1)
-  where
-    go : (b : Bool) → AllOff p.at (filter q ps) → AreApart (filter q ps) → AreApart (if b then p ∷ filter q ps else filter q ps)
-    go true off rest = (off, rest)
-    go false off rest = rest
+apart_filter q (p ∷ ps) h =
+    elim (q p) as (λ b. AreApart (if b then p ∷ filter q ps else filter q ps)) [ true ↦ (all-filter (λ (r : Placed). same_place r.at p.at ≡ false) q ps h.0, apart_filter q ps h.1) | false ↦ apart_filter q ps h.1 ]

@@ -1,6 +1,5 @@
 -- An agent's part of a register, from the rows that are found by key.
-use Rattle.std.proofs.Common.{◌≡◌, ℕ, ◌+◌, false, List, [], ◌∷◌, ◌++◌, length, take, reverse, Option, Some, None, refl, ap, ◌∙◌, arith}
-use Rattle.std.specs.Prelude.{slice_get, option_map, unwrap_or}
+use Rattle.std.proofs.Common.{◌≡◌, ℕ, ◌+◌, false, List, [], ◌∷◌, ◌++◌, length, take, reverse, Option, Some, None, refl, ap, ◌∙◌, arith, slice_get, option_map, unwrap_or}
 use Rattle.std.specs.List.{last_or}
 use Rattle.std.proofs.lemmas.List.{reverse-append}
 use Rattle.bor_terms.specs.Texts.{is_same}

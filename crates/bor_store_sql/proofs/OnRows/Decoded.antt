@@ -1,11 +1,10 @@
 -- Each value from the columns that it has: no two values have the same.
-use Rattle.std.proofs.Common.{◌≡◌, ℕ, zero, suc, ℤ, pos, negsuc, Bool, true, false, List, [], map, Option, Some, None, option_map, refl, sym, ap, ap₂, ◌∙◌}
-use Rattle.std.specs.Prelude.{unwrap_or}
+use Rattle.std.proofs.Common.{◌≡◌, ℕ, zero, suc, ℤ, pos, negsuc, Bool, true, false, List, [], map, Option, Some, None, option_map, refl, sym, ap, ap₂, ◌∙◌, unwrap_or}
 use Rattle.sqlite.specs.declared.types.Value.{Value}
 use Rattle.sqlite.specs.declared.types.Value.TheVariants.{Int, Text, Blob}
 use Rattle.sqlite.specs.Order.{Row, column}
 use Rattle.bor_terms.specs.Span.{Range}
-use Rattle.bods_read.specs.Words.{type_worded, status_word, status_worded}
+use Rattle.bods_read.specs.Words.{type_worded, status_word, status_worded, entity_kind_of, person_kind_of, interest_kind_of, directness_named}
 use Rattle.bods_read.specs.declared.statement.RecordType.{RecordType}
 use Rattle.bods_read.specs.declared.statement.RecordType.TheVariants as types
 use Rattle.bods_read.specs.declared.statement.Status.{Status}
@@ -23,7 +22,6 @@ use Rattle.bor_store_sql.specs.declared.rows.typed.StatementRow.{StatementRow}
 use Rattle.bor_store_sql.specs.declared.rows.typed.InterestLine.{InterestLine}
 use Rattle.bor_store_sql.specs.declared.rows.typed.PeriodRow.{PeriodRow}
 use Rattle.bor_store_sql.specs.declared.rows.typed.IdentifierRow.{IdentifierRow}
-use Rattle.bods_read.specs.Words.{entity_kind_of, person_kind_of, interest_kind_of, directness_named}
 use Rattle.bods_read.specs.WordLaws.{type_back, status_back, entity_back, person_back, interest_back, directness_back}
 use Rattle.bor_store_sql.specs.Rows.Encoding.{truth, or_null, day_or_null, statement_columns, interest_line_columns, period_columns, identifier_columns, filing_columns}
 use Rattle.sqlite_keyed.proofs.ListLemmas.{map_back}

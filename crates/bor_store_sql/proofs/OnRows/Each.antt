@@ -1,5 +1,5 @@
 -- What holds of each statement, interest and identifier that a register has, by where it stands.
-use Rattle.std.proofs.Common.{◌≡◌, ℕ, ◌+◌, ◌≤◌, ◌<◌, ◌==◌, true, false, List, [], ◌∷◌, filter, arith}
+use Rattle.std.proofs.Common.{◌≡◌, ℕ, ◌+◌, ◌≤◌, ◌<◌, ◌==◌, true, false, List, [], ◌∷◌, filter, Option, Some, None, ℤ, arith}
 use Rattle.std.specs.List.{AllByRecursion, flat_map}
 use Rattle.sqlite_keyed.proofs.ListLemmas.{all-append, all-flat_map, all_weaker, filter_none}
 use Rattle.bor_terms.specs.Texts.{is_below}
@@ -13,8 +13,9 @@ use Rattle.bor_store_sql.specs.declared.rows.places.At.{At}
 use Rattle.bor_store_sql.specs.declared.rows.typed.Placed.{Placed}
 use Rattle.bor_store_sql.specs.declared.rows.typed.InterestRow.{InterestRow}
 use Rattle.bor_store_sql.specs.declared.rows.typed.IdentifierRow.{IdentifierRow}
+use Rattle.bor_store_sql.specs.declared.rows.typed.PeriodRow.{PeriodRow}
 use Rattle.bor_store_sql.specs.Fitting.{standing}
-use Rattle.bor_store_sql.specs.Rows.Placed.{identifier_rows, identifiers_from, interest_rows, interests_from, placed, placed_by, placed_from}
+use Rattle.bor_store_sql.specs.Rows.Placed.{if_said, identifier_rows, identifiers_from, interest_rows, interests_from, placed, placed_by, placed_from}
 use Rattle.bor_store_sql.specs.Rows.Stored.{AreNumbered}
 use Rattle.bor_store_sql.proofs.OnRows.Numbers.{other_number}
 
@@ -67,3 +68,10 @@ later_numbers number n (f ∷ fs) low up = (other_number number f.number (let e 
 
 pub none_numbered : (number n : ℕ) (fs : List AcceptedFiling) → number < n → AreNumbered n fs → filter (λ (f : AcceptedFiling). f.number == number) fs ≡ []
 none_numbered number n fs low up = filter_none (λ (f : AcceptedFiling). f.number == number) fs (later_numbers number n fs low up)
+
+-- ---- the row of an interest's days
+
+pub all_said : (P : PeriodRow → Type 0) (p : PeriodRow) → P p → (starts ends : Option ℤ) → AllByRecursion P (if_said p starts ends)
+all_said P p h None None = tt
+all_said P p h None (Some end) = (h, tt)
+all_said P p h (Some start) ends = (h, tt)

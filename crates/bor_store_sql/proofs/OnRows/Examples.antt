@@ -2,7 +2,7 @@
 use Rattle.std.proofs.Common.{◌≡◌, ◌≢◌, ℕ, ℤ, pos, true, false, [], ◌∷◌, map, Option, Some, None, codes, refl, ap, arith}
 use Rattle.sqlite.specs.declared.types.Value.TheVariants.{Null, Int, Text, Blob}
 use Rattle.bor_terms.specs.Span.{Range}
-use Rattle.bods_read.specs.Words.{type_word, type_worded, status_word, status_worded, entity_word, person_word, interest_word, directness_word}
+use Rattle.bods_read.specs.Words.{type_word, type_worded, status_word, status_worded, entity_word, person_word, interest_word, directness_word, entity_kind_of, person_kind_of, interest_kind_of, directness_named}
 use Rattle.bods_read.specs.declared.statement.Statement.{Statement}
 use Rattle.bods_read.specs.declared.statement.Status.TheVariants.{New}
 use Rattle.bods_read.specs.declared.details.Details.TheVariants.{Entity, Person, Relationship}
@@ -16,7 +16,6 @@ use Rattle.bor_register.specs.declared.filing.AcceptedFiling.{AcceptedFiling}
 use Rattle.bor_store_sql.specs.Rows.Encoding.{contents}
 use Rattle.bor_store_sql.specs.Shown.{first_contents}
 use Rattle.bor_store_sql.specs.Undated.{undated, undated_filing, undated_statement, without_days}
-use Rattle.bods_read.specs.Words.{entity_kind_of, person_kind_of, interest_kind_of, directness_named}
 
 -- ---- the register
 
@@ -40,6 +39,12 @@ owner = record {
   details = Person KnownPerson None;
 }
 
+abbrev held : ℕ → Option ℤ → Option ℤ → Interest
+held low starts ends = record { kind = VotingRights; directness = Direct; share = Some (record { low = low; low_open = true; high = 50; high_open = false }); starts = starts; ends = ends }
+
+abbrev other : Interest
+other = record { kind = Other; directness = Unknown; share = None; starts = None; ends = None }
+
 holding : Statement
 holding = record {
   id = codes "s3";
@@ -47,9 +52,7 @@ holding = record {
   declaration = codes "c1";
   rec = codes "r1";
   status = Some New;
-  details = Relationship (Some (codes "e1")) (Some (codes "p1"))
-      (record { kind = VotingRights; directness = Direct; share = Some (record { low = 25; low_open = true; high = 50; high_open = false }); starts = Some (pos 19754); ends = None }
-      ∷ record { kind = Other; directness = Unknown; share = None; starts = None; ends = None } ∷ []);
+  details = Relationship (Some (codes "e1")) (Some (codes "p1")) (held 25 (Some (pos 19754)) None ∷ other ∷ []);
 }
 
 lodged : AcceptedFiling
@@ -116,9 +119,7 @@ identifier_rows = refl
 
 -- the holding without the day on which it starts
 undated_holding : undated_statement holding ≡ record holding {
-  details = Relationship (Some (codes "e1")) (Some (codes "p1"))
-      (record { kind = VotingRights; directness = Direct; share = Some (record { low = 25; low_open = true; high = 50; high_open = false }); starts = None; ends = None }
-      ∷ record { kind = Other; directness = Unknown; share = None; starts = None; ends = None } ∷ []);
+  details = Relationship (Some (codes "e1")) (Some (codes "p1")) (held 25 None None ∷ other ∷ []);
 }
 unfolding holding
 undated_holding = refl
@@ -128,10 +129,7 @@ undated_alder : map undated_filing (lodged ∷ withdrawn ∷ []) ≡ record lodg
 unfolding lodged withdrawn company owner
 undated_alder = refl
 
--- a holding of other days, and one of a greater share
-abbrev held : ℕ → Option ℤ → Option ℤ → Interest
-held low starts ends = record { kind = VotingRights; directness = Direct; share = Some (record { low = low; low_open = true; high = 50; high_open = false }); starts = starts; ends = ends }
-
+-- other days, and a greater share
 other_days : undated (held 25 (Some (pos 19755)) (Some (pos 19800))) ≡ undated (held 25 None None)
 other_days = refl
 

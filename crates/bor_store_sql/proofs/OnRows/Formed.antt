@@ -1,8 +1,6 @@
 -- The rows of a stored register have their forms.
-use Rattle.std.proofs.Common.{◌≡◌, ℕ, ℤ, Option, Some, None, ◌+◌, ◌<◌, ◌≤◌, ◌^◌, List, [], ◌∷◌, map, length, true, arith}
-use Rattle.std.specs.Prelude.{All}
-use Rattle.std.specs.List.{flat_map}
-use Rattle.std.proofs.lemmas.List.Elements.{All-nil, All-cons, All-head, All-tail, All-append, All-map, All-weaker}
+use Rattle.std.proofs.Common.{◌≡◌, ℕ, ◌+◌, ◌<◌, ◌≤◌, ◌^◌, List, [], ◌∷◌, map, length, true, arith, All, flat_map}
+use Rattle.std.proofs.lemmas.List.Elements.{All-from_recursion, All-nil, All-cons, All-head, All-tail, All-append, All-map, All-weaker}
 use Rattle.bor_terms.specs.Texts.{is_agent_name}
 use Rattle.bods_read.specs.Forms.{IsFormedStatement, IsFormedDetails, IsFormedInterest, IsFormedIdentifier}
 use Rattle.bods_read.specs.declared.statement.Statement.{Statement}
@@ -16,10 +14,11 @@ use Rattle.bor_register.specs.declared.filing.AcceptedFiling.{AcceptedFiling}
 use Rattle.bor_register.specs.declared.member.Member.{Member}
 use Rattle.bor_store_sql.specs.declared.rows.places.At.{At}
 use Rattle.bor_store_sql.specs.declared.rows.typed.Placed.{Placed}
-use Rattle.bor_store_sql.specs.Rows.Placed.{register_row, agent_row, filing_row, filing_lines, bare, interest_line, period_of, period_rows, if_said, part_of, interests_listed, identifiers_listed, interest_rows, identifier_rows, interests_from, identifiers_from, placed_from, placed_by, placed}
+use Rattle.bor_store_sql.specs.Rows.Placed.{register_row, agent_row, filing_row, filing_lines, bare, interest_line, period_of, period_rows, part_of, interests_listed, identifiers_listed, interest_rows, identifier_rows, interests_from, identifiers_from, placed_from, placed_by, placed}
 use Rattle.bor_store_sql.specs.Rows.RowForms.{IsFormedRegisterRow, IsFormedAgentRow, IsFormedFilingRow, IsFormedAt, IsFormedPart, IsFormedStatementRow, IsFormedInterestLine, IsFormedPeriodRow, IsFormedInterestRow, IsFormedIdentifierRow, IsFormedPlaced}
 use Rattle.bor_store_sql.specs.declared.rows.typed.InterestRow.{InterestRow}
 use Rattle.bor_store_sql.specs.Rows.Stored.{IsCounted, AreCounted, IsStored}
+use Rattle.bor_store_sql.proofs.OnRows.Each.{all_said}
 
 pub register_formed : (r : Register) → IsFormed r → IsFormedRegisterRow (register_row r)
 register_formed r h = record { day = h.day; registrar = h.registrar }
@@ -153,12 +152,7 @@ period_formed : (i : InterestRow) → IsFormedInterestRow i → IsFormedPeriodRo
 period_formed i h = record { at = h.at; item = h.item; starts = h.interest.starts; ends = h.interest.ends }
 
 periods_formed : (i : InterestRow) → IsFormedInterestRow i → All IsFormedPeriodRow (period_rows i)
-periods_formed i h = go i.interest.starts i.interest.ends
-  where
-    go : (starts ends : Option ℤ) → All IsFormedPeriodRow (if_said (period_of i) starts ends)
-    go None None = All-nil IsFormedPeriodRow
-    go None (Some end) = All-cons IsFormedPeriodRow (period_of i) [] (period_formed i h) (All-nil IsFormedPeriodRow)
-    go (Some start) ends = All-cons IsFormedPeriodRow (period_of i) [] (period_formed i h) (All-nil IsFormedPeriodRow)
+periods_formed i h = All-from_recursion IsFormedPeriodRow (period_rows i) (all_said IsFormedPeriodRow (period_of i) (period_formed i h) i.interest.starts i.interest.ends)
 
 pub all_lines_formed : (is : List InterestRow) → All IsFormedInterestRow is → All IsFormedInterestLine (map interest_line is)
 all_lines_formed is h = All-map IsFormedInterestLine interest_line is (All-weaker IsFormedInterestRow (λ i. IsFormedInterestLine (interest_line i)) line_formed is h)

@@ -14,7 +14,7 @@ use Rattle.bor_store_sql.specs.declared.rows.typed.IdentifierRow.{IdentifierRow}
 use Rattle.bor_store_sql.specs.Rows.Placed.{same_place, bare, interest_rows, identifier_rows, interests_from, identifiers_from, interests_listed, identifiers_listed, part_of, details_with, with_lists, AreApart}
 use Rattle.bor_store_sql.proofs.OnRows.Numbers.{same_number}
 use Rattle.bor_store_sql.proofs.OnRows.Each.{each_identifier, each_identifier_of, each_interest, each_interest_of}
-use Rattle.bor_store_sql.proofs.OnRows.Lists.{no_values}
+use Rattle.bor_store_sql.proofs.OnRows.Lists.{Splits, no_values}
 
 pub at_itself : (at : At) → same_place at at ≡ true
 at_itself at = rw (same_refl at.agent, same_number at.filing, same_number at.place) refl
@@ -57,16 +57,11 @@ pub record Left (all out : List Placed) (rows : List StatementRow) (is : List In
   pub interests_are : is ≡ flat_map interest_rows left
   pub identifiers_are : ds ≡ flat_map identifier_rows left
 
--- the rows at a place are split from those that follow
-abbrev pub Splits : {R : Type 0} → (R → At) → List R → At → List R → List R → Type 0
-Splits {R} at_of rows at own rest = (mine more : List R) → rows ≡ mine ++ more → AllByRecursion (λ row. same_place (at_of row) at ≡ true) mine
-    → AllByRecursion (λ row. same_place (at_of row) at ≡ false) more → (own ≡ mine) × (rest ≡ more)
-
 pub none_left : (all out : List Placed) (rows : List StatementRow) (is : List InterestRow) (ds : List IdentifierRow) → Left all out rows is ds → rows ≡ [] → out ≡ all
 none_left all out rows is ds l none = sym (append-nil out) ∙ ap (λ left. out ++ left) (sym (no_values bare l.left (sym l.rows_are ∙ none))) ∙ l.whole
 
 pub one_more : (all out : List Placed) (rows more : List StatementRow) (row : StatementRow) (is is_left own_is : List InterestRow) (ds ds_left own_ds : List IdentifierRow) (made : Placed)
-    → Left all out rows is ds → rows ≡ row ∷ more → Splits (λ (r : InterestRow). r.at) is row.at own_is is_left → Splits (λ (r : IdentifierRow). r.at) ds row.at own_ds ds_left
+    → Left all out rows is ds → rows ≡ row ∷ more → Splits (λ (r : InterestRow). same_place r.at row.at) is own_is is_left → Splits (λ (r : IdentifierRow). same_place r.at row.at) ds own_ds ds_left
     → made ≡ with_lists row (map (λ (r : InterestRow). r.interest) own_is) (map (λ (r : IdentifierRow). r.identifier) own_ds) → Left all (out ++ made ∷ []) more is_left ds_left
 one_more all out rows more row is is_left own_is ds ds_left own_ds made l first split_is split_ds made_is =
     go l.left l.whole l.apart (sym first ∙ l.rows_are) l.interests_are l.identifiers_are

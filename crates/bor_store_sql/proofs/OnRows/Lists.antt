@@ -1,7 +1,6 @@
--- Rows that are read one by one.
-use Rattle.std.proofs.Common.{◌≡◌, ℕ, ◌+◌, ◌<◌, List, [], ◌∷◌, ◌++◌, length, drop, slice_index_or, map, append-nil, append_assoc, add-one, refl, sym, ap, ◌∙◌}
-use Rattle.std.proofs.Math.Seq.{drop-cons}
-use Rattle.std.specs.Prelude.{All, slice_get, Some}
+-- Rows that are read one by one, and split.
+use Rattle.std.specs.List.{AllByRecursion}
+use Rattle.std.proofs.Common.{◌≡◌, ℕ, ◌+◌, ◌<◌, Bool, true, false, List, [], ◌∷◌, ◌++◌, length, drop, slice_index_or, map, append-nil, append_assoc, add-one, refl, sym, ap, ◌∙◌, zero, suc, get_or, true≢false, take, arith, drop-cons, All, slice_get, Some}
 use Rattle.std.proofs.lemmas.List.Elements.{All-head, All-tail}
 
 -- where there are no rows there are no values
@@ -52,3 +51,22 @@ pub first_read : {X R : Type 0} (columns : X → R) (is_formed : X → Type 0) (
     → ((y : X) → row ≡ columns y → is_formed y → Q) → Q
 first_read columns is_formed rows [] row Q first e h reads = let none = sym (ap (λ l. slice_get l 0) e) ∙ first in absurd cc
 first_read columns is_formed rows (y ∷ xs) row Q first e h reads = let here : row ≡ columns y = cc in reads y here (All-head is_formed y xs h)
+
+-- rows are split into those of a key and those that follow
+abbrev pub Splits : {R : Type 0} → (R → Bool) → List R → List R → List R → Type 0
+Splits {R} is_own rows own rest = (mine more : List R) → rows ≡ mine ++ more → AllByRecursion (λ row. is_own row ≡ true) mine
+    → AllByRecursion (λ row. is_own row ≡ false) more → (own ≡ mine) × (rest ≡ more)
+
+-- ---- the first elements that pass a test, where those after them fail it
+
+-- where the first that fails is reached, or the end
+pub stops : {X : Type 0} (q : X → Bool) (mine more : List X) (i : ℕ) → AllByRecursion (λ x. q x ≡ true) mine → AllByRecursion (λ x. q x ≡ false) more → AllByRecursion (λ x. q x ≡ true) (take i (mine ++ more))
+    → (i < length (mine ++ more) → (x : X) × (x ≡ get_or (mine ++ more) i x) × (q x ≡ false)) → (take i (mine ++ more) ≡ mine) × (drop i (mine ++ more) ≡ more)
+stops q [] [] zero all none so stop = (refl, refl)
+stops q [] [] (suc i) all none so stop = (refl, refl)
+stops q [] (y ∷ more) zero all none so stop = (refl, refl)
+stops q [] (y ∷ more) (suc i) all none so stop = absurd (true≢false (sym so.0 ∙ none.0))
+stops q (x ∷ mine) more zero all none so stop = let it = stop (omega arith) in absurd (true≢false (sym all.0 ∙ ap q (sym it.1) ∙ it.2))
+stops q (x ∷ mine) more (suc i) all none so stop =
+    let rest = stops q mine more i all.1 none so.1 (λ lt. stop (omega (arith, lt))) in
+    (ap (λ l. x ∷ l) rest.0, rest.1)

@@ -1,6 +1,6 @@
 -- Values are told by their rows: no two registers' members have the same rows.
-use Rattle.std.proofs.Common.{◌≡◌, ◌+◌, ◌==◌, ℕ, ℤ, Bool, true, false, true≢false, not, Option, Some, None, List, [], ◌∷◌, ◌++◌, map, length, unwrap_or, refl, sym, ap, ap₂, subst, ◌∙◌, arith}
-use Rattle.std.specs.List.{AllByRecursion, flat_map, position_from}
+use Rattle.std.proofs.Common.{◌≡◌, ◌+◌, ◌==◌, ℕ, ℤ, Bool, true, false, true≢false, Option, Some, None, List, [], ◌∷◌, ◌++◌, map, refl, sym, ap, ap₂, subst, ◌∙◌, arith}
+use Rattle.std.specs.List.{AllByRecursion, flat_map}
 use Rattle.sqlite_keyed.proofs.ListLemmas.{all-append, all-map}
 use Rattle.bor_terms.specs.Texts.{is_same}
 use Rattle.bor_terms.proofs.Texts.{same_refl}
@@ -19,7 +19,6 @@ use Rattle.bor_store_sql.specs.Rows.Placed.{AreApart, AreSeveral, Misses, agent_
 use Rattle.bor_store_sql.specs.Rows.Stored.{AllNumbered, AreNumbered}
 use Rattle.bor_store_sql.proofs.OnRows.Decoded.{Filed, filed, without_statements}
 use Rattle.bor_store_sql.proofs.OnRows.Joins.{back, at_itself, identifiers_at, interests_at, no_identifiers_at, no_interests_at}
-use Rattle.bor_store_sql.proofs.OnRows.Leading.{back_of, front_of}
 use Rattle.bor_store_sql.proofs.OnRows.Numbers.{same_number}
 use Rattle.bor_store_sql.proofs.OnRows.Rebuilt.{above_statements, agent_by, differs, later_statements, statements_at, statements_back}
 use Rattle.bor_store_sql.proofs.OnRows.Timings.{all_missed, timed}
@@ -27,11 +26,14 @@ use Rattle.bor_store_sql.proofs.OnRows.Timings.{all_missed, timed}
 -- a list is split in one way into elements that pass a test and elements that fail it
 split_once : {X : Type 0} (q : X → Bool) (mine more own rest : List X) → mine ++ more ≡ own ++ rest → AllByRecursion (λ x. q x ≡ true) mine → AllByRecursion (λ x. q x ≡ false) more
     → AllByRecursion (λ x. q x ≡ true) own → AllByRecursion (λ x. q x ≡ false) rest → (mine ≡ own) × (more ≡ rest)
-split_once q mine more own rest same all none all_too none_too =
-    let n = unwrap_or (position_from (λ x. not (q x)) 0 (mine ++ more)) (length (mine ++ more)) in (
-      sym (front_of q (mine ++ more) mine more n refl refl all none) ∙ front_of q (mine ++ more) own rest n refl same all_too none_too,
-      sym (back_of q (mine ++ more) mine more n refl refl all none) ∙ back_of q (mine ++ more) own rest n refl same all_too none_too,
-    )
+split_once q [] more [] rest same all none all_too none_too = (refl, same)
+split_once q [] more (y ∷ own) rest same all none all_too none_too = absurd (true≢false (sym all_too.0 ∙ (subst (AllByRecursion (λ x. q x ≡ false)) same none).0))
+split_once q (x ∷ mine) more [] rest same all none all_too none_too = absurd (true≢false (sym all.0 ∙ (subst (AllByRecursion (λ x. q x ≡ false)) (sym same) none_too).0))
+split_once q (x ∷ mine) more (y ∷ own) rest same all none all_too none_too =
+    let here : x ≡ y = cc in
+    let there : mine ++ more ≡ own ++ rest = cc in
+    let it = split_once q mine more own rest there all.1 none all_too.1 none_too in
+    (ap₂ (λ z l. z ∷ l) here it.0, it.1)
 
 -- ---- interests, from their rows in two tables
 
@@ -46,6 +48,13 @@ missed i j row rows more same at item first misses =
     let not_it : same_interest row.at row.item j.at j.item ≡ false = (subst (Misses j) first misses).0 in
     true≢false (sym (interest_itself j.at j.item) ∙ sym (ap₂ (λ a n. same_interest a n j.at j.item) place number) ∙ not_it)
 
+-- the same first row has the same days
+same_first : (p q : PeriodRow) (more rest : List PeriodRow) → p ∷ more ≡ q ∷ rest → (p.starts ≡ q.starts) × (p.ends ≡ q.ends) × (more ≡ rest)
+same_first p q more rest same =
+    let one : p ≡ q = cc in
+    let tail : more ≡ rest = cc in
+    (ap (λ (r : PeriodRow). r.starts) one, ap (λ (r : PeriodRow). r.ends) one, tail)
+
 -- where lines are the same, so are days, and the rows of the other interests
 same_days : (i j : InterestRow) (starts ends then till : Option ℤ) (more rest : List PeriodRow) → interest_line i ≡ interest_line j → Misses i more → Misses j rest
     → if_said (record (period_of i) { starts = starts; ends = ends }) starts ends ++ more ≡ if_said (record (period_of j) { starts = then; ends = till }) then till ++ rest → (starts ≡ then) × (ends ≡ till) × (more ≡ rest)
@@ -54,22 +63,10 @@ same_days i j None None None (Some e) more rest line b d same = absurd (missed j
 same_days i j None None (Some s) till more rest line b d same = absurd (missed j i (record (period_of j) { starts = Some s; ends = till }) more rest (sym line) refl refl same b)
 same_days i j None (Some e) None None more rest line b d same = absurd (missed i j (record (period_of i) { starts = None; ends = Some e }) rest more line refl refl (sym same) d)
 same_days i j (Some s) ends None None more rest line b d same = absurd (missed i j (record (period_of i) { starts = Some s; ends = ends }) rest more line refl refl (sym same) d)
-same_days i j None (Some e) None (Some f) more rest line b d same =
-    let one : record (period_of i) { starts = None; ends = Some e } ≡ record (period_of j) { starts = None; ends = Some f } = cc in
-    let tail : more ≡ rest = cc in
-    (refl, ap (λ (p : PeriodRow). p.ends) one, tail)
-same_days i j None (Some e) (Some s) till more rest line b d same =
-    let one : record (period_of i) { starts = None; ends = Some e } ≡ record (period_of j) { starts = Some s; ends = till } = cc in
-    let tail : more ≡ rest = cc in
-    (ap (λ (p : PeriodRow). p.starts) one, ap (λ (p : PeriodRow). p.ends) one, tail)
-same_days i j (Some s) ends None (Some f) more rest line b d same =
-    let one : record (period_of i) { starts = Some s; ends = ends } ≡ record (period_of j) { starts = None; ends = Some f } = cc in
-    let tail : more ≡ rest = cc in
-    (ap (λ (p : PeriodRow). p.starts) one, ap (λ (p : PeriodRow). p.ends) one, tail)
-same_days i j (Some s) ends (Some t) till more rest line b d same =
-    let one : record (period_of i) { starts = Some s; ends = ends } ≡ record (period_of j) { starts = Some t; ends = till } = cc in
-    let tail : more ≡ rest = cc in
-    (ap (λ (p : PeriodRow). p.starts) one, ap (λ (p : PeriodRow). p.ends) one, tail)
+same_days i j None (Some e) None (Some f) more rest line b d same = same_first (record (period_of i) { starts = None; ends = Some e }) (record (period_of j) { starts = None; ends = Some f }) more rest same
+same_days i j None (Some e) (Some s) till more rest line b d same = same_first (record (period_of i) { starts = None; ends = Some e }) (record (period_of j) { starts = Some s; ends = till }) more rest same
+same_days i j (Some s) ends None (Some f) more rest line b d same = same_first (record (period_of i) { starts = Some s; ends = ends }) (record (period_of j) { starts = None; ends = Some f }) more rest same
+same_days i j (Some s) ends (Some t) till more rest line b d same = same_first (record (period_of i) { starts = Some s; ends = ends }) (record (period_of j) { starts = Some t; ends = till }) more rest same
 
 pub same_timed : (is js : List InterestRow) → AreSeveral is → AreSeveral js → map interest_line is ≡ map interest_line js → flat_map period_rows is ≡ flat_map period_rows js → is ≡ js
 same_timed [] [] a b lines periods = refl

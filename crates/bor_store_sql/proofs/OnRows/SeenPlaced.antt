@@ -1,11 +1,12 @@
 -- The rows of an agent that a viewer sees are those that it sees statement by statement.
-use Rattle.std.proofs.Common.{◌≡◌, ℕ, ℤ, ◌+◌, ◌<◌, ◌==◌, Bool, true, false, ◌&&◌, List, [], ◌∷◌, ◌++◌, map, refl, sym, ap, ap₂, ◌∙◌, arith, if◌then◌else◌}
-use Rattle.std.specs.Prelude.{filter}
+use Rattle.std.proofs.Common.{◌≡◌, ℕ, ℤ, ◌+◌, ◌<◌, ◌==◌, Bool, true, false, ◌&&◌, List, [], ◌∷◌, ◌++◌, map, refl, sym, ap, ap₂, ◌∙◌, arith, if◌then◌else◌, filter}
 use Rattle.std.specs.List.{AllByRecursion, list_any}
 use Rattle.std.proofs.Math.Bool.{or-false}
 use Rattle.std.proofs.lemmas.List.{map-append}
 use Rattle.std.proofs.lemmas.List.Elements.{filter-append}
 use Rattle.sqlite_keyed.proofs.ListLemmas.{filter-map, filter_all, filter_none}
+pub use Rattle.sqlite_trees.proofs.ListLemmas.{filter_same}
+pub use Rattle.bor_register.proofs.OnMemory.Lists.{filters_swap}
 use Rattle.bor_terms.specs.Texts.{is_same}
 use Rattle.bods_read.specs.declared.statement.Statement.{Statement}
 use Rattle.bor_register.specs.Rows.{row_of, rows_from, rows_in, rows_of, of_declaration, is_visible}
@@ -26,20 +27,6 @@ rows_in-placed agent [] = refl
 rows_in-placed agent (f ∷ fs) =
     ap₂ (λ xs ys. xs ++ ys) (rows_from-placed agent f.number 1 f.statements) (rows_in-placed agent fs)
     ∙ sym (map-append row_placed (placed_from agent f.number 1 f.statements) (placed_by agent fs))
-
-pub filter_same : {X : Type 0} (p q : X → Bool) (xs : List X) → AllByRecursion (λ x. p x ≡ q x) xs → filter p xs ≡ filter q xs
-filter_same p q [] h = refl
-filter_same p q (x ∷ xs) h = rw (h.0, filter_same p q xs h.1) refl
-
-pub filters_swap : {X : Type 0} (p q : X → Bool) (xs : List X) → filter p (filter q xs) ≡ filter q (filter p xs)
-filters_swap p q [] = refl
-filters_swap p q (x ∷ xs) = go (p x) (q x) refl refl (filters_swap p q xs)
-  where
-    go : (a b : Bool) → p x ≡ a → q x ≡ b → filter p (filter q xs) ≡ filter q (filter p xs) → filter p (filter q (x ∷ xs)) ≡ filter q (filter p (x ∷ xs))
-    go true true e h rest = rw (e, h, e) (ap (λ l. x ∷ l) rest)
-    go true false e h rest = rw (e, h) rest
-    go false true e h rest = rw (e, h, e) rest
-    go false false e h rest = rw (e, h) rest
 
 module _ (viewer : List ℕ) (day : ℤ) (agent : List ℕ) where
   -- no later filing has the number

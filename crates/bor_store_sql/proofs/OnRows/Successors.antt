@@ -1,7 +1,7 @@
 -- A filing has a successor where the last statement of one of its records stands in a later filing.
-use Rattle.std.proofs.Common.{◌≡◌, ℕ, ◌+◌, ◌<◌, ◌≤◌, ◌==◌, Bool, true, false, ◌&&◌, ◌||◌, List, [], ◌∷◌, ◌++◌, append-nil, Option, Some, None, refl, sym, ap, ap₂, ◌∙◌, arith, if◌then◌else◌}
-use Rattle.std.specs.Prelude.{filter, nat_lt}
+use Rattle.std.proofs.Common.{◌≡◌, ℕ, ◌+◌, ◌<◌, ◌≤◌, ◌==◌, Bool, true, false, ◌&&◌, ◌||◌, List, [], ◌∷◌, ◌++◌, append-nil, Option, Some, None, inl, inr, refl, sym, ap, ap₂, ◌∙◌, arith, if◌then◌else◌, filter, nat_lt}
 use Rattle.std.specs.List.{list_any, last_or}
+use Rattle.std.proofs.lemmas.Bool.{cases_Bool, eqb-true, le-ltb, lt-ltb, ltb-true}
 use Rattle.std.proofs.Math.Bool.{and-true, and-false, or-false, or_assoc}
 use Rattle.std.proofs.lemmas.Bool.Decides.{nat_tests}
 use Rattle.std.proofs.lemmas.List.Elements.{filter-append}
@@ -33,18 +33,12 @@ all_after : (number : ℕ) (p : Placed) (agent : List ℕ) (filing place : ℕ) 
 all_after number p agent filing place [] e = refl
 all_after number p agent filing place (s ∷ ss) e = rw (e, all_after number p agent filing (place + 1) ss e) (ap (λ b. b || list_any (is_of p.statement.declaration p.statement.rec) ss) (and-true (is_of p.statement.declaration p.statement.rec s)))
 
-below_is : (n m : ℕ) → n < m → nat_lt n m ≡ true
-below_is n m low = grind (arith, nat_tests)
-
-not_below_itself : (n : ℕ) → nat_lt n n ≡ false
-not_below_itself n = grind (arith, nat_tests)
-
 later_after : (number : ℕ) (p : Placed) (agent : List ℕ) (n : ℕ) (gs : List AcceptedFiling) → number < n → AreNumbered n gs
     → list_any (after number p) (placed_by agent gs) ≡ list_any (λ (g : AcceptedFiling). list_any (is_of p.statement.declaration p.statement.rec) g.statements) gs
 later_after number p agent n [] low numbered = refl
 later_after number p agent n (g ∷ gs) low numbered =
     list_any-append (after number p) (placed_from agent g.number 1 g.statements) (placed_by agent gs)
-    ∙ ap₂ (λ a b. a || b) (all_after number p agent g.number 1 g.statements (below_is number g.number (let is = numbered.0 in omega (arith, is))))
+    ∙ ap₂ (λ a b. a || b) (all_after number p agent g.number 1 g.statements (lt-ltb number g.number (let is = numbered.0 in omega (arith, is))))
     (later_after number p agent (n + 1) gs (omega arith) numbered.1)
 
 -- ---- the statements of a filing
@@ -69,7 +63,7 @@ abbrev succeeded : List ℕ → ℕ → List AcceptedFiling → Bool
 succeeded agent number fs = list_any (λ p. list_any (after number p) (placed_by agent fs)) (filter (λ (p : Placed). p.at.filing == number) (placed_by agent fs))
 
 pub is_number : (n m : ℕ) → (n == m) ≡ true → n ≡ m
-is_number n m e = grind (arith, nat_tests)
+is_number n m e = eqb-true n m e
 
 own_succeeded : (agent : List ℕ) (f : AcceptedFiling) (fs : List AcceptedFiling) (n : ℕ) → f.number < n → AreNumbered n fs → list_any (shares_record f) fs ≡ succeeded agent f.number (f ∷ fs)
 own_succeeded agent f fs n low numbered =
@@ -78,7 +72,7 @@ own_succeeded agent f fs n low numbered =
     ∙ sym (any_like (λ (p : Placed). list_any (after f.number p) (placed_by agent (f ∷ fs))) (λ (p : Placed). list_any (λ (g : AcceptedFiling). list_any (is_of p.statement.declaration p.statement.rec) g.statements) fs)
     (placed_from agent f.number 1 f.statements)
     (λ p. list_any-append (after f.number p) (placed_from agent f.number 1 f.statements) (placed_by agent fs)
-    ∙ ap₂ (λ a b. a || b) (none_after f.number p agent f.number 1 f.statements (not_below_itself f.number)) (later_after f.number p agent n fs low numbered)))
+    ∙ ap₂ (λ a b. a || b) (none_after f.number p agent f.number 1 f.statements (le-ltb f.number f.number (omega arith))) (later_after f.number p agent n fs low numbered)))
     ∙ sym (ap (list_any (λ p. list_any (after f.number p) (placed_by agent (f ∷ fs))))
     (filter-append (λ (p : Placed). p.at.filing == f.number) (placed_from agent f.number 1 f.statements) (placed_by agent fs)
     ∙ ap₂ (λ xs ys. xs ++ ys) (own_filing agent f.number 1 f.statements) (none_filed agent f.number n fs low numbered)
@@ -143,11 +137,8 @@ within_on low low2 (Some p) le h = omega (arith, h)
 
 later_or : (number : ℕ) (o : Option Placed) (m : ℕ) → IsWithin m o → (is_later number o || nat_lt number m) ≡ nat_lt number m
 later_or number None m h = refl
-later_or number (Some p) m h = go (nat_lt number p.at.filing) refl
-  where
-    go : (b : Bool) → nat_lt number p.at.filing ≡ b → (b || nat_lt number m) ≡ nat_lt number m
-    go true e = grind (arith, nat_tests)
-    go false e = refl
+later_or number (Some p) m h =
+    elim (cases_Bool (nat_lt number p.at.filing)) [ inl e ↦ rw (e, lt-ltb number m (let low = ltb-true number p.at.filing e in omega (arith, low, h))) refl | inr e ↦ rw e refl ]
 
 last_later : (number : ℕ) (q : Placed → Bool) (o : Option Placed) (low : ℕ) (ps : List Placed) → Rises low ps → IsWithin low o
     → is_later number (last_or o (filter q ps)) ≡ (is_later number o || list_any (λ (p : Placed). q p && nat_lt number p.at.filing) ps)

@@ -1,7 +1,7 @@
 -- Interests to which their days are put, one by one.
-use Rattle.std.proofs.Common.{◌≡◌, ◌+◌, ◌==◌, ℕ, ℤ, false, Option, Some, None, List, [], ◌∷◌, ◌++◌, map, append-nil, append_assoc, refl, sym, ap, ◌∙◌, arith}
+use Rattle.std.proofs.Common.{◌≡◌, ◌+◌, ◌==◌, ℕ, ℤ, false, Option, List, [], ◌∷◌, ◌++◌, map, append-nil, append_assoc, refl, sym, ap, ◌∙◌, arith}
 use Rattle.std.specs.List.{AllByRecursion, flat_map}
-use Rattle.sqlite_keyed.proofs.ListLemmas.{all-append}
+use Rattle.sqlite_keyed.proofs.ListLemmas.{all-append, all-flat_map, all_weaker}
 use Rattle.bor_store_sql.specs.declared.rows.typed.InterestLine.{InterestLine}
 use Rattle.bor_store_sql.specs.declared.rows.typed.InterestRow.{InterestRow}
 use Rattle.bor_store_sql.specs.declared.rows.typed.PeriodRow.{PeriodRow}
@@ -9,22 +9,18 @@ use Rattle.bods_read.specs.declared.interest.Interest.{Interest}
 use Rattle.bor_store_sql.specs.declared.rows.places.At.{At}
 use Rattle.bor_store_sql.specs.declared.rows.typed.Placed.{Placed}
 use Rattle.bor_store_sql.proofs.OnRows.Numbers.{other_number}
-use Rattle.bor_store_sql.specs.Rows.Placed.{AreApart, interest_rows, interests_from, interests_listed, same_place, AreSeveral, Misses, OfNext, if_said, interest_line, period_of, period_rows, same_interest}
+use Rattle.bor_store_sql.specs.Rows.Placed.{AreApart, interest_rows, interests_from, interests_listed, same_place, AreSeveral, Misses, OfNext, interest_line, period_of, period_rows, same_interest}
 use Rattle.std.proofs.Math.Bool.{and-false}
-use Rattle.bor_store_sql.proofs.OnRows.Each.{each_interest, each_interest_of}
+use Rattle.bor_store_sql.proofs.OnRows.Each.{all_said, each_interest, each_interest_of}
+use Rattle.bor_store_sql.proofs.OnRows.Lists.{no_values}
 
 -- the periods of other interests miss this one
 one_missed : (i j : InterestRow) → same_interest j.at j.item i.at i.item ≡ false → Misses i (period_rows j)
-one_missed i j e = go j.interest.starts j.interest.ends
-  where
-    go : (starts ends : Option ℤ) → Misses i (if_said (period_of j) starts ends)
-    go None None = tt
-    go None (Some end) = (e, tt)
-    go (Some start) ends = (e, tt)
+one_missed i j e = all_said (λ (p : PeriodRow). same_interest p.at p.item i.at i.item ≡ false) (period_of j) e j.interest.starts j.interest.ends
 
 pub all_missed : (i : InterestRow) (is : List InterestRow) → AllByRecursion (λ (j : InterestRow). same_interest j.at j.item i.at i.item ≡ false) is → Misses i (flat_map period_rows is)
-all_missed i [] h = tt
-all_missed i (j ∷ is) h = all-append _ (period_rows j) (flat_map period_rows is) (one_missed i j h.0) (all_missed i is h.1)
+all_missed i is h =
+    all-flat_map (λ (p : PeriodRow). same_interest p.at p.item i.at i.item ≡ false) period_rows is (all_weaker (λ (j : InterestRow). same_interest j.at j.item i.at i.item ≡ false) (λ j. Misses i (period_rows j)) (one_missed i) is h)
 
 -- some interests are made of all, and the rows of both tables are those of the others
 pub record Left (all out : List InterestRow) (lines : List InterestLine) (periods : List PeriodRow) : Type 0 where
@@ -35,11 +31,7 @@ pub record Left (all out : List InterestRow) (lines : List InterestLine) (period
   pub periods_are : periods ≡ flat_map period_rows left
 
 pub none_left : (all out : List InterestRow) (lines : List InterestLine) (periods : List PeriodRow) → Left all out lines periods → lines ≡ [] → out ≡ all
-none_left all out lines periods l none = go l.left l.whole (sym l.lines_are ∙ none)
-  where
-    go : (left : List InterestRow) → out ++ left ≡ all → map interest_line left ≡ [] → out ≡ all
-    go [] whole e = sym (append-nil out) ∙ whole
-    go (i ∷ left) whole e = absurd cc
+none_left all out lines periods l none = sym (append-nil out) ∙ ap (λ left. out ++ left) (sym (no_values interest_line l.left (sym l.lines_are ∙ none))) ∙ l.whole
 
 abbrev pub timed : InterestLine → Option ℤ → Option ℤ → InterestRow
 timed l starts ends = record { at = l.at; item = l.item; interest = record { kind = l.kind; directness = l.directness; share = l.share; starts = starts; ends = ends } }

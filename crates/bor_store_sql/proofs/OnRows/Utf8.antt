@@ -1,6 +1,5 @@
 -- Texts of a form are UTF-8.
-use Rattle.std.proofs.Common.{◌≡◌, ℕ, ◌<◌, ◌&&◌, Bool, List, [], ◌∷◌, Option, Some, None, true, arith}
-use Rattle.std.specs.Prelude.{All, IfSome}
+use Rattle.std.proofs.Common.{◌≡◌, ℕ, ◌<◌, ◌&&◌, Bool, List, [], ◌∷◌, true, arith, All}
 use Rattle.std.specs.List.{list_all}
 use Rattle.std.specs.Str.{IsUtf8, is_utf8}
 use Rattle.std.proofs.lemmas.Bool.{and_parts}
@@ -44,8 +43,3 @@ ident_utf8 t h = IsUtf8-from_is_utf8 t (and_parts (has_length 1 255 t && list_al
 
 pub free_utf8 : (t : List ℕ) → is_utf8 t ≡ true → IsUtf8 t
 free_utf8 t h = IsUtf8-from_is_utf8 t h
-
--- a text of which more is known
-pub free_so : (o : Option (List ℕ)) (Q : List ℕ → Type 0) → IfSome o (λ t. (is_utf8 t ≡ true) × Q t) → IfSome o (λ t. is_utf8 t ≡ true)
-free_so None Q h = tt
-free_so (Some t) Q h = h.0

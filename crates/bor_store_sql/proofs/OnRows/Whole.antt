@@ -1,5 +1,5 @@
--- A row is its columns, where there are as many.
-use Rattle.std.proofs.Common.{◌≡◌, ℕ, ◌+◌, [], ◌∷◌, length, drop, Option, Some, None, refl, ap, ◌∙◌, arith}
+-- A row is its columns, where there are as many, and the low end of a share.
+use Rattle.std.proofs.Common.{◌≡◌, ℕ, ◌+◌, [], ◌∷◌, length, drop, Option, Some, None, refl, ap, ◌∙◌, arith, ◌≤◌, Bool, true}
 use Rattle.std.proofs.lemmas.List.{drop_all}
 use Rattle.sqlite.specs.declared.types.Value.TheVariants.{Null}
 use Rattle.sqlite.specs.Order.{Row, column}
@@ -9,6 +9,9 @@ use Rattle.bor_store_sql.specs.declared.rows.typed.Part.TheVariants as part
 use Rattle.bor_store_sql.specs.Rows.Encoding.{part_columns, share_columns}
 use Rattle.bor_store_sql.specs.Rows.Reading.{HasFour}
 use Rattle.bor_store_sql.proofs.OnRows.Lists.{next_row}
+use Rattle.std.proofs.lemmas.Bool.Decides.{nat_tests}
+use Rattle.bor_terms.proofs.Held.{held_is, is_held}
+use Rattle.bods_read.specs.Forms.{IsShare}
 
 -- from a column on, the row has these values
 abbrev pub HasFrom : ℕ → Row → Row → Type 0
@@ -42,3 +45,12 @@ share_long (Some s) = refl
 pub share_from : (row : Row) (o : Option Range) → HasFour row 6 (share_columns o) → HasFrom 6 row (share_columns o)
 share_from row None h = (h.0, (h.1, (h.2, (h.3, tt))))
 share_from row (Some s) h = (h.0, (h.1, (h.2, (h.3, tt))))
+
+-- ---- the low end of a share
+
+not_above : (low : ℕ) (low_open : Bool) (high : ℕ) (high_open : Bool) → is_held low low_open high high_open ≡ true → low ≤ high
+not_above low low_open high high_open h = grind (arith, nat_tests)
+
+-- the low end is no more than the high one
+pub low_small : (s : Range) → IsShare s → s.low ≤ 100
+low_small s h = let below = not_above s.low s.low_open s.high s.high_open (held_is s.low s.low_open s.high s.high_open h.high h.points) in let top = h.high in omega (arith, below, top)

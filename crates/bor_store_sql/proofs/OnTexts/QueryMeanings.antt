@@ -14,10 +14,6 @@ pub all_agents_is : IsSelect ALL_AGENTS.now all_agents_query
 unfolding understood everything
 all_agents_is = record { reads = (_, refl); asks = (_, refl, (refl, refl), refl) }
 
-pub all_filings_is : IsSelect ALL_FILINGS.now all_filings_query
-unfolding understood everything
-all_filings_is = record { reads = (_, refl); asks = (_, refl, (refl, refl), refl) }
-
 pub all_statements_is : IsSelect ALL_STATEMENTS.now all_statements_query
 unfolding understood everything
 all_statements_is = record { reads = (_, refl); asks = (_, refl, (refl, refl), refl) }
@@ -70,21 +66,9 @@ pub statement_by_id_is : IsSelect STATEMENT_BY_ID.now statement_by_id_query
 unfolding understood everything
 statement_by_id_is = record { reads = (_, refl); asks = (_, refl, (refl, refl), refl) }
 
-pub statements_of_filing_is : IsSelect STATEMENTS_OF_FILING.now statements_of_filing_query
-unfolding understood everything
-statements_of_filing_is = record { reads = (_, refl); asks = (_, refl, (refl, refl), refl) }
-
 pub statements_of_declaration_is : IsSelect STATEMENTS_OF_DECLARATION.now statements_of_declaration_query
 unfolding understood everything
 statements_of_declaration_is = record { reads = (_, refl); asks = (_, refl, (refl, refl), refl) }
-
-pub interests_of_statement_is : IsSelect INTERESTS_OF_STATEMENT.now interests_of_statement_query
-unfolding understood everything
-interests_of_statement_is = record { reads = (_, refl); asks = (_, refl, (refl, refl), refl) }
-
-pub identifiers_of_statement_is : IsSelect IDENTIFIERS_OF_STATEMENT.now identifiers_of_statement_query
-unfolding understood everything
-identifiers_of_statement_is = record { reads = (_, refl); asks = (_, refl, (refl, refl), refl) }
 
 pub more_statements_is : IsSelect MORE_STATEMENTS.now more_statements_query
 unfolding understood everything
@@ -118,28 +102,24 @@ pub periods_of_statement_is : IsSelect PERIODS_OF_STATEMENT.now periods_of_state
 unfolding understood everything
 periods_of_statement_is = record { reads = (_, refl); asks = (_, refl, (refl, refl), refl) }
 
-pub file_by_number_is : IsSelect FILE_BY_NUMBER.now file_by_number_query
-unfolding understood everything
-file_by_number_is = record { reads = (_, refl); asks = (_, refl, (refl, refl), refl) }
-
 -- ---- those that are asked of version 1 too
 
 pub all_filings_both : IsSelectBoth ALL_FILINGS.now all_filings_query
 unfolding understood everything
-all_filings_both = record { now = all_filings_is; first = (_, refl, (refl, refl), refl) }
+all_filings_both = record { now = record { reads = (_, refl); asks = (_, refl, (refl, refl), refl) }; first = (_, refl, (refl, refl), refl) }
 
 pub file_by_number_both : IsSelectBoth FILE_BY_NUMBER.now file_by_number_query
 unfolding understood everything
-file_by_number_both = record { now = file_by_number_is; first = (_, refl, (refl, refl), refl) }
+file_by_number_both = record { now = record { reads = (_, refl); asks = (_, refl, (refl, refl), refl) }; first = (_, refl, (refl, refl), refl) }
 
 pub statements_of_filing_both : IsSelectBoth STATEMENTS_OF_FILING.now statements_of_filing_query
 unfolding understood everything
-statements_of_filing_both = record { now = statements_of_filing_is; first = (_, refl, (refl, refl), refl) }
+statements_of_filing_both = record { now = record { reads = (_, refl); asks = (_, refl, (refl, refl), refl) }; first = (_, refl, (refl, refl), refl) }
 
 pub interests_of_statement_both : IsSelectBoth INTERESTS_OF_STATEMENT.now interests_of_statement_query
 unfolding understood everything
-interests_of_statement_both = record { now = interests_of_statement_is; first = (_, refl, (refl, refl), refl) }
+interests_of_statement_both = record { now = record { reads = (_, refl); asks = (_, refl, (refl, refl), refl) }; first = (_, refl, (refl, refl), refl) }
 
 pub identifiers_of_statement_both : IsSelectBoth IDENTIFIERS_OF_STATEMENT.now identifiers_of_statement_query
 unfolding understood everything
-identifiers_of_statement_both = record { now = identifiers_of_statement_is; first = (_, refl, (refl, refl), refl) }
+identifiers_of_statement_both = record { now = record { reads = (_, refl); asks = (_, refl, (refl, refl), refl) }; first = (_, refl, (refl, refl), refl) }

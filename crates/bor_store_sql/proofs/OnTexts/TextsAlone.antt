@@ -1,10 +1,9 @@
 -- The commands of the texts that make the tables and put down the register's row, whatever the schema.
 use Rattle.std.proofs.Common.{◌≡◌, ℕ, Bool, false, List, [], Ok, Err, Result, refl}
-use Rattle.sqlite.specs.Compile.{table_defined_by}
+use Rattle.sqlite.specs.Compile.{table_defined_by, first, index_defined_by}
 use Rattle.sqlite.specs.Does.{sequence_text}
 use Rattle.sqlite.specs.Source.TheVariants.{Values}
 use Rattle.sqlite.specs.Table.{Table}
-use Rattle.sqlite_resolve.specs.Compile.{first, index_defined_by}
 use Rattle.sqlite_resolve.specs.declared.error.CompileError.{CompileError}
 use Rattle.sqlite_schema.specs.declared.schema.Index.{Index}
 use Rattle.sqlite_tied.specs.Compute.{everything}
@@ -12,7 +11,7 @@ use Rattle.bor_store_sql.specs.Texts.Changes.{insert_register_terms}
 use Rattle.bor_store_sql.specs.declared.texts.changes.TheConstants.{INSERT_REGISTER}
 use Rattle.bor_store_sql.specs.Texts.Tables.{register_table, filing_table, statement_table, identifier_table, record_index, subject_index, identifier_index, line_index, agent_table, interest_table, period_table}
 use Rattle.bor_store_sql.specs.declared.texts.tables.TheConstants.{REGISTER_TABLE, AGENT_TABLE, FILING_TABLE, STATEMENT_TABLE, INTEREST_TABLE, IDENTIFIER_TABLE, PERIOD_TABLE, RECORD_INDEX, SUBJECT_INDEX, IDENTIFIER_INDEX, LINE_INDEX}
-use Rattle.bor_store_sql.proofs.AnySchema.{IsPutting, Indexes, Makes, Reads, untimed}
+use Rattle.bor_store_sql.proofs.Plain.{IsPutting, Indexes, Makes, Reads, untimed}
 
 -- The text makes this table.
 pub record IsTableText (text : List ℕ) (table : Table) : Type 0 where

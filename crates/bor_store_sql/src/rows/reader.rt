@@ -167,7 +167,7 @@ fn place_at(alloc: Global, row: &Row) -> Result<At, RowFault>
 }
 
 // A share, by the last four columns of an interest.
-#[tactic(auto, using(crate::proofs::OnRows::Shares::low_small))]
+#[tactic(auto, using(crate::proofs::OnRows::Whole::low_small))]
 fn span_of(row: &Row) -> Result<Span, RowFault>
     ensures reads { (s : Range) → HasFour row.now 6 (share_columns (Some s)) → IsShare s
         → result ≡ Ok s }

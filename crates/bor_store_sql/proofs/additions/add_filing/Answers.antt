@@ -1,15 +1,14 @@
 use Rattle.std.proofs.Common.{◌<◌, All, subst, arith, rules}
-use Rattle.sqlite.specs.Held.{state}
 use Rattle.std.proofs.lemmas.List.Elements.{All-from_get_or}
 use Rattle.bor_terms.specs.Day.{IsDay}
 use Rattle.bor_store_sql.specs.Rows.Encoding.{contents}
 use Rattle.bor_store_sql.specs.Rows.Stored.{AreCounted}
 use Rattle.bor_store_sql.specs.Changing.{Any, with_live_filing}
 use Rattle.bor_store_sql.specs.Shown.{ChangesContents, StepsTo}
-use Rattle.bor_store_sql.proofs.AddedContents.{added_has}
+use Rattle.bor_store_sql.proofs.Contents.{added_has}
 use Rattle.bor_store_sql.proofs.StoredMembers.{added_stored}
 use Rattle.bor_store_sql.proofs.Ending.{alters, ended}
-use Rattle.bor_store_sql.proofs.Moves.{with_known}
+use Rattle.bor_store_sql.proofs.Moves.{with_known, state}
 use Rattle.bor_store_sql.proofs.additions.add_filing.Goals as goal
 
 pub returns : goal.returns

@@ -1,5 +1,4 @@
-use Rattle.bor_store_sql.proofs.Adding.{filing_put}
-use Rattle.bor_store_sql.proofs.Moves.{moves_by}
+use Rattle.bor_store_sql.proofs.Changes.{filing_put, moves_by}
 use Rattle.bor_store_sql.proofs.additions.insert_filing.Goals as goal
 
 pub returns-clause-steps : goal.returns-clause-steps

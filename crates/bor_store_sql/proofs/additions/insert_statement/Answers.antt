@@ -1,6 +1,5 @@
 use Rattle.bor_store_sql.specs.Rows.Placed.{bare}
-use Rattle.bor_store_sql.proofs.Adding.{statement_put}
-use Rattle.bor_store_sql.proofs.Moves.{moves_by}
+use Rattle.bor_store_sql.proofs.Changes.{statement_put, moves_by}
 use Rattle.bor_store_sql.proofs.additions.insert_statement.Goals as goal
 
 pub returns-clause-steps : goal.returns-clause-steps

@@ -1,13 +1,12 @@
-use Rattle.std.proofs.Common.{◌≡◌, ◌+◌, Ok, ap, subst, ◌∙◌}
-use Rattle.std.proofs.lemmas.List.{take_all}
-use Rattle.sqlite.specs.Held.{state}
+use Rattle.std.proofs.Common.{◌≡◌, ◌+◌, Ok, ap, subst, ◌∙◌, take_all}
+use Rattle.std.proofs.lemmas.List.Elements.{All-more}
 use Rattle.bor_store_sql.specs.declared.rows.places.At.{At}
 use Rattle.bor_store_sql.specs.Fitting.{standing}
 use Rattle.bor_store_sql.specs.Changing.{Any, in_turn, with_one_placed}
 use Rattle.bor_store_sql.specs.Shown.{StepsTo}
-use Rattle.bor_store_sql.proofs.Counted.{all_counted}
+use Rattle.bor_store_sql.specs.Rows.Stored.{IsCounted}
 use Rattle.bor_store_sql.proofs.Lists.{next_in_turn}
-use Rattle.bor_store_sql.proofs.Moves.{one_more}
+use Rattle.bor_store_sql.proofs.Moves.{one_more, state}
 use Rattle.bor_store_sql.proofs.additions.insert_statements.Goals as goal
 
 pub loop-statement-preserved : goal.loop-statement-preserved
@@ -26,7 +25,7 @@ loop-statement-preserved g c =
       within = c.in_ok-at.ensures.within;
       steps = one_more (next_in_turn (λ k x. with_one_placed (standing agent number k x)) i n c.args.statements.now s c.loop-statement-test.true c.statement-item.is place) it.steps
           (subst (λ a. StepsTo Any (with_one_placed (record { at = a; statement = s })) (state g.S.Store c.loop-statement.tx.conn.now) (state g.S.Store c.insert_placed.new.tx.conn.now) (Ok (tt {0}))) at c.in_ok-insert_placed.ensures.steps);
-      each = all_counted c.args.statements.now i s c.loop-statement-test.true c.statement-item.is it.each c.in_ok-insert_placed.ensures.counted;
+      each = All-more IsCounted c.args.statements.now i s c.loop-statement-test.true it.each (subst IsCounted c.statement-item.is c.in_ok-insert_placed.ensures.counted);
     }
 
 pub returns-clause-steps : goal.returns-clause-steps

@@ -1,5 +1,4 @@
-use Rattle.std.proofs.Common.{◌≡◌, ◌<◌, ◌^◌, Ok, take}
-use Rattle.std.specs.Prelude.{All}
+use Rattle.std.proofs.Common.{◌≡◌, ◌<◌, ◌^◌, Ok, take, All}
 use Rattle.sqlite.specs.Held.{state}
 use Rattle.bor_store_sql.specs.Fitting.{standing}
 use Rattle.bor_store_sql.specs.Rows.Stored.{IsCounted}

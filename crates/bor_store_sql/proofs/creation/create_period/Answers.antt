@@ -1,8 +1,7 @@
 use Rattle.std.proofs.Common.{refl}
 use Rattle.bor_store_sql.specs.Texts.Tables.{period_table}
 use Rattle.bor_store_sql.specs.declared.texts.tables.TheConstants.{PERIOD_TABLE}
-use Rattle.bor_store_sql.proofs.AddedBeside.{table_beside}
-use Rattle.bor_store_sql.proofs.Beside.{period_made}
+use Rattle.bor_store_sql.proofs.Creating.{table_beside, period_made}
 use Rattle.bor_store_sql.proofs.Moves.{moves_by}
 use Rattle.bor_store_sql.proofs.OnTexts.TextsAlone.{period_table_text}
 use Rattle.bor_store_sql.proofs.creation.create_period.Goals as goal

@@ -1,10 +1,7 @@
 use Rattle.std.proofs.Common.{refl}
-use Rattle.bor_store_sql.proofs.Created.{all_add, all_lead}
-use Rattle.bor_store_sql.proofs.Moves.{each_moves, each_open}
+use Rattle.bor_store_sql.proofs.Creating.{all_add, all_lead}
+use Rattle.bor_store_sql.proofs.Moves.{each_moves}
 use Rattle.bor_store_sql.proofs.creation.create_tables.Goals as goal
-
-pub returns-clause-ran_open : goal.returns-clause-ran_open
-returns-clause-ran_open g c = each_open c.run_each.ensures.ran
 
 pub returns-clause-leads : goal.returns-clause-leads
 returns-clause-leads g c = each_moves c.run_each.ensures.ran refl all_lead

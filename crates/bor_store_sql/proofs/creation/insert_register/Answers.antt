@@ -1,5 +1,4 @@
-use Rattle.bor_store_sql.proofs.Creating.{register_put}
-use Rattle.bor_store_sql.proofs.PutBeside.{register_put_beside}
+use Rattle.bor_store_sql.proofs.Creating.{register_put, register_put_beside}
 use Rattle.bor_store_sql.proofs.Moves.{moves_by}
 use Rattle.bor_store_sql.proofs.creation.insert_register.Goals as goal
 

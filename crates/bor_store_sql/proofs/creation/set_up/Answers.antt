@@ -1,5 +1,4 @@
 use Rattle.std.proofs.Common.{inl, inr, subst, rules}
-use Rattle.sqlite.specs.Held.{state}
 use Rattle.bor_terms.specs.Day.{IsDay}
 use Rattle.bor_register.specs.Register.{empty_register}
 use Rattle.bor_store_sql.specs.Rows.Encoding.{contents}
@@ -9,7 +8,7 @@ use Rattle.bor_store_sql.specs.Blank.{IsBlank, LeadsBetween}
 use Rattle.bor_store_sql.specs.Ran.{MovesTo}
 use Rattle.bor_store_sql.specs.Shown.{Has}
 use Rattle.bor_store_sql.proofs.Creating.{empty_is_stored}
-use Rattle.bor_store_sql.proofs.Ending.{ended, on_ok, stands_in, stopped_in}
+use Rattle.bor_store_sql.proofs.Ending.{ended, on_ok, stands_in, stopped_in, state}
 use Rattle.bor_store_sql.proofs.Standing.{sets_up_in}
 use Rattle.bor_store_sql.proofs.creation.set_up.Goals as goal
 

@@ -5,12 +5,8 @@ use Rattle.bor_store_sql.specs.Rows.Placed.{identifiers_from}
 use Rattle.bor_store_sql.specs.declared.rows.places.At.{At}
 use Rattle.bor_store_sql.specs.Fitting.{Pairwise}
 use Rattle.bor_store_sql.specs.Selected.{identifiers_at}
-use Rattle.bor_store_sql.proofs.Pairs.{all_made, made_from}
-use Rattle.bor_store_sql.proofs.Told.{no_answer, told_of_rows}
+use Rattle.bor_store_sql.proofs.Fits.{all_made, made_from, told_of_rows}
 use Rattle.bor_store_sql.proofs.fitting.keeps_identifiers.Goals as goal
-
-pub returns-in_err-rows : goal.returns-in_err-rows
-returns-in_err-rows g c = no_answer _ _ c.in_err-rows.ensures.reads c.from_residual.result c.from_residual.ensures.0
 
 pub returns : goal.returns
 returns g c =

@@ -6,7 +6,7 @@ use Rattle.bor_store_sql.specs.Rows.Encoding.{identifier_columns, interest_colum
 use Rattle.bor_store_sql.specs.Rows.Placed.{identifiers_from, interests_from}
 use Rattle.bor_store_sql.specs.declared.rows.places.At.{At}
 use Rattle.bor_store_sql.specs.Selected.{identifiers_at, interests_at}
-use Rattle.bor_store_sql.proofs.Told.{no_answer, told_after, told_unless}
+use Rattle.bor_store_sql.proofs.Fits.{told_after}
 use Rattle.bor_store_sql.proofs.fitting.keeps_lists.Goals as goal
 
 abbrev HasInterests : At → Register → List Interest → Type 0
@@ -14,14 +14,6 @@ HasInterests at r xs = map interest_columns (interests_from at 1 xs) ≡ map int
 
 abbrev HasIdentifiers : At → Register → List Identifier → Type 0
 HasIdentifiers at r xs = map identifier_columns (identifiers_from at 1 xs) ≡ map identifier_columns (identifiers_at at r.members)
-
-pub returns-in_err-keeps_interests : goal.returns-in_err-keeps_interests
-returns-in_err-keeps_interests g c = no_answer _ _ c.in_err-keeps_interests.ensures.reads c.from_residual.result c.from_residual.ensures.0
-
-pub returns-then-not-branch : goal.returns-then-not-branch
-returns-then-not-branch g c =
-    let at : At = c.args.at.now in
-    told_unless _ _ _ c.if-not-branch.true c.in_ok-keeps_interests.ensures (λ r h. subst (HasInterests at r) (sym c.interests.ensures) h.interests)
 
 pub returns : goal.returns
 returns g c =

@@ -1,5 +1,5 @@
 use Rattle.std.proofs.Common.{◌≡◌, ◌+◌, true≢false, sym, ap, ◌∙◌, arith}
-use Rattle.bor_store_sql.proofs.Pairs.{as_many, one_more, pair_at}
+use Rattle.bor_store_sql.proofs.Fits.{as_many, one_more, pair_at}
 use Rattle.bor_store_sql.proofs.items.are_items.Goals as goal
 
 pub returns-then-rows-items : goal.returns-then-rows-items

@@ -1,5 +1,4 @@
-use Rattle.bor_store_sql.proofs.Finding.{finds}
-use Rattle.bor_store_sql.proofs.Selecting.{agent_by_name_found}
+use Rattle.bor_store_sql.proofs.Selecting.{agent_by_name_found, finds}
 use Rattle.bor_store_sql.proofs.keyed.agent_by_name.Goals as goal
 
 pub returns : goal.returns

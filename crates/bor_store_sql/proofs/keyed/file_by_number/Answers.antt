@@ -1,5 +1,4 @@
-use Rattle.bor_store_sql.proofs.Finding.{finds}
-use Rattle.bor_store_sql.proofs.BothReads.{file_by_number_found}
+use Rattle.bor_store_sql.proofs.Selecting.{file_by_number_found, finds}
 use Rattle.bor_store_sql.proofs.keyed.file_by_number.Goals as goal
 
 pub returns : goal.returns

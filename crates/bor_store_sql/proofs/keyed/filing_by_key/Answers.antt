@@ -1,5 +1,4 @@
-use Rattle.bor_store_sql.proofs.Finding.{finds}
-use Rattle.bor_store_sql.proofs.Selecting.{filing_by_key_found}
+use Rattle.bor_store_sql.proofs.Selecting.{filing_by_key_found, finds}
 use Rattle.bor_store_sql.proofs.keyed.filing_by_key.Goals as goal
 
 pub returns : goal.returns

@@ -1,5 +1,4 @@
-use Rattle.bor_store_sql.proofs.Finding.{finds}
-use Rattle.bor_store_sql.proofs.Selecting.{filings_of_agent_found}
+use Rattle.bor_store_sql.proofs.Selecting.{filings_of_agent_found, finds}
 use Rattle.bor_store_sql.proofs.keyed.filings_of_agent.Goals as goal
 
 pub returns : goal.returns

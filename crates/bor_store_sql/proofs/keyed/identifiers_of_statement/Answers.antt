@@ -1,5 +1,4 @@
-use Rattle.bor_store_sql.proofs.Finding.{finds}
-use Rattle.bor_store_sql.proofs.BothReads.{identifiers_of_statement_found}
+use Rattle.bor_store_sql.proofs.Selecting.{identifiers_of_statement_found, finds}
 use Rattle.bor_store_sql.proofs.keyed.identifiers_of_statement.Goals as goal
 
 pub returns : goal.returns

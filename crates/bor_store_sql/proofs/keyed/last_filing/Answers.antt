@@ -1,5 +1,4 @@
-use Rattle.bor_store_sql.proofs.Finding.{finds}
-use Rattle.bor_store_sql.proofs.Selecting.{last_filing_found}
+use Rattle.bor_store_sql.proofs.Selecting.{last_filing_found, finds}
 use Rattle.bor_store_sql.proofs.keyed.last_filing.Goals as goal
 
 pub returns : goal.returns

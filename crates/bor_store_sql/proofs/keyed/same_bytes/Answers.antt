@@ -1,5 +1,4 @@
-use Rattle.bor_store_sql.proofs.Finding.{finds}
-use Rattle.bor_store_sql.proofs.Selecting.{same_bytes_found}
+use Rattle.bor_store_sql.proofs.Selecting.{same_bytes_found, finds}
 use Rattle.bor_store_sql.proofs.keyed.same_bytes.Goals as goal
 
 pub returns : goal.returns

@@ -1,5 +1,4 @@
-use Rattle.bor_store_sql.proofs.Finding.{finds}
-use Rattle.bor_store_sql.proofs.Selecting.{statements_of_declaration_found}
+use Rattle.bor_store_sql.proofs.Selecting.{statements_of_declaration_found, finds}
 use Rattle.bor_store_sql.proofs.keyed.statements_of_declaration.Goals as goal
 
 pub returns : goal.returns

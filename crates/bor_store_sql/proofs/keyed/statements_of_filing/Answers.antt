@@ -1,5 +1,4 @@
-use Rattle.bor_store_sql.proofs.Finding.{finds}
-use Rattle.bor_store_sql.proofs.BothReads.{statements_of_filing_found}
+use Rattle.bor_store_sql.proofs.Selecting.{statements_of_filing_found, finds}
 use Rattle.bor_store_sql.proofs.keyed.statements_of_filing.Goals as goal
 
 pub returns : goal.returns

@@ -1,6 +1,5 @@
 use Rattle.std.proofs.Common.{sym}
-use Rattle.sqlite.specs.Held.{state}
-use Rattle.bor_store_sql.proofs.Ending.{stands_in}
+use Rattle.bor_store_sql.proofs.Ending.{stands_in, state}
 use Rattle.bor_store_sql.proofs.laws.open_tables_last.Goals as goal
 
 pub returns : goal.returns

@@ -1,7 +1,7 @@
 use Rattle.std.proofs.Common.{rules}
 use Rattle.bor_store_sql.specs.Rows.Encoding.{tables_version}
 use Rattle.bor_store_sql.specs.Shown.{first_contents}
-use Rattle.bor_store_sql.proofs.Versioning.{moved_has, one_version}
+use Rattle.bor_store_sql.proofs.Changes.{moved_has, one_version}
 use Rattle.bor_store_sql.proofs.Ending.{alters, ended}
 use Rattle.bor_store_sql.proofs.moving.move_tables.Goals as goal
 

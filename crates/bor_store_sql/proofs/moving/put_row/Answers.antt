@@ -1,5 +1,4 @@
-use Rattle.bor_store_sql.proofs.Adding.{period_put}
-use Rattle.bor_store_sql.proofs.Moves.{moves_by}
+use Rattle.bor_store_sql.proofs.Changes.{period_put, moves_by}
 use Rattle.bor_store_sql.proofs.moving.put_row.Goals as goal
 
 pub returns-clause-moves : goal.returns-clause-moves

@@ -1,6 +1,5 @@
 use Rattle.bor_store_sql.specs.Rows.Encoding.{tables_version}
-use Rattle.bor_store_sql.proofs.Moves.{moves_by}
-use Rattle.bor_store_sql.proofs.Versioning.{version_updated}
+use Rattle.bor_store_sql.proofs.Changes.{version_updated, moves_by}
 use Rattle.bor_store_sql.proofs.moving.set_version.Goals as goal
 
 pub returns-clause-moves : goal.returns-clause-moves

@@ -1,12 +1,11 @@
 use Rattle.std.proofs.Common.{◌≡◌, List, Vec, false, sym, ◌∙◌, rules}
 use Rattle.std.specs.declared.alloc.Global.{Global}
 use Rattle.sqlite.specs.Order.{Row}
-use Rattle.sqlite.specs.Held.{state}
 use Rattle.sqlite.specs.State.{HasCleanDisk}
 use Rattle.sqlite.specs.Values.{bound}
 use Rattle.bor_store_sql.proofs.Finding.{known, settled_shown}
 use Rattle.bor_store_sql.proofs.Keeping.{leaves_no_more, left_by, up_by}
-use Rattle.bor_store_sql.proofs.Moves.{was_clean}
+use Rattle.bor_store_sql.proofs.Moves.{was_clean, state}
 use Rattle.bor_store_sql.proofs.queries.query.Goals as goal
 
 abbrev rows_in : Vec Row Global → List Row

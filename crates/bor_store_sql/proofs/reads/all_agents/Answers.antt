@@ -1,6 +1,5 @@
 use Rattle.std.proofs.Common.{refl}
-use Rattle.bor_store_sql.proofs.Finding.{finds}
-use Rattle.bor_store_sql.proofs.Selecting.{all_agents_found}
+use Rattle.bor_store_sql.proofs.Selecting.{all_agents_found, finds}
 use Rattle.bor_store_sql.proofs.reads.all_agents.Goals as goal
 
 pub returns : goal.returns

@@ -1,6 +1,5 @@
 use Rattle.std.proofs.Common.{refl}
-use Rattle.bor_store_sql.proofs.Finding.{finds}
-use Rattle.bor_store_sql.proofs.Selecting.{all_statements_found}
+use Rattle.bor_store_sql.proofs.Selecting.{all_statements_found, finds}
 use Rattle.bor_store_sql.proofs.reads.all_statements.Goals as goal
 
 pub returns : goal.returns

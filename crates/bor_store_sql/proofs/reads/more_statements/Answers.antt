@@ -1,5 +1,4 @@
-use Rattle.bor_store_sql.proofs.Finding.{finds}
-use Rattle.bor_store_sql.proofs.Selecting.{more_statements_found}
+use Rattle.bor_store_sql.proofs.Selecting.{more_statements_found, finds}
 use Rattle.bor_store_sql.proofs.reads.more_statements.Goals as goal
 
 pub returns : goal.returns

@@ -1,5 +1,4 @@
-use Rattle.bor_store_sql.proofs.Finding.{finds}
-use Rattle.bor_store_sql.proofs.Selecting.{identifiers_by_id_found}
+use Rattle.bor_store_sql.proofs.Selecting.{identifiers_by_id_found, finds}
 use Rattle.bor_store_sql.proofs.records.identifiers_by_id.Goals as goal
 
 pub returns : goal.returns

@@ -1,5 +1,4 @@
-use Rattle.bor_store_sql.proofs.Finding.{finds}
-use Rattle.bor_store_sql.proofs.Selecting.{statement_by_place_found}
+use Rattle.bor_store_sql.proofs.Selecting.{statement_by_place_found, finds}
 use Rattle.bor_store_sql.proofs.records.statement_by_place.Goals as goal
 
 pub returns : goal.returns

@@ -1,5 +1,4 @@
-use Rattle.bor_store_sql.proofs.Finding.{finds}
-use Rattle.bor_store_sql.proofs.Selecting.{statements_of_record_found}
+use Rattle.bor_store_sql.proofs.Selecting.{statements_of_record_found, finds}
 use Rattle.bor_store_sql.proofs.records.statements_of_record.Goals as goal
 
 pub returns : goal.returns

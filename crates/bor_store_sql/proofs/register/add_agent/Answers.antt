@@ -1,12 +1,11 @@
 use Rattle.std.proofs.Common.{subst₂, rules}
-use Rattle.sqlite.specs.Held.{state}
 use Rattle.bor_register.specs.Register.{new_member}
 use Rattle.bor_store_sql.specs.Rows.Encoding.{agent_columns, contents}
 use Rattle.bor_store_sql.specs.Changing.{Any, with_agent_row}
 use Rattle.bor_store_sql.specs.Shown.{StepsTo}
-use Rattle.bor_store_sql.proofs.AddedContents.{enrolled_has}
+use Rattle.bor_store_sql.proofs.Contents.{enrolled_has}
 use Rattle.bor_store_sql.proofs.StoredMembers.{enrolled_stored}
-use Rattle.bor_store_sql.proofs.Ending.{alters, ended}
+use Rattle.bor_store_sql.proofs.Ending.{alters, ended, state}
 use Rattle.bor_store_sql.proofs.register.add_agent.Goals as goal
 
 pub returns : goal.returns

@@ -1,6 +1,5 @@
 use Rattle.bor_register.specs.Register.{new_member}
-use Rattle.bor_store_sql.proofs.Adding.{agent_put}
-use Rattle.bor_store_sql.proofs.Moves.{moves_by}
+use Rattle.bor_store_sql.proofs.Changes.{agent_put, moves_by}
 use Rattle.bor_store_sql.proofs.register.insert_agent.Goals as goal
 
 pub returns-clause-steps : goal.returns-clause-steps

@@ -1,7 +1,7 @@
 use Rattle.std.proofs.Common.{subst, rules}
 use Rattle.bor_terms.specs.Day.{IsDay}
 use Rattle.bor_store_sql.specs.Rows.Encoding.{contents}
-use Rattle.bor_store_sql.proofs.Dating.{one_register, dated_has, dated_stored}
+use Rattle.bor_store_sql.proofs.Changes.{one_register, dated_has, dated_stored}
 use Rattle.bor_store_sql.proofs.Ending.{alters, ended}
 use Rattle.bor_store_sql.proofs.register.set_day.Goals as goal
 

@@ -1,10 +1,9 @@
 use Rattle.std.proofs.Common.{subst₂, rules}
-use Rattle.sqlite.specs.Held.{state}
 use Rattle.bor_store_sql.specs.Rows.Encoding.{contents}
 use Rattle.bor_store_sql.specs.Changing.{IsOneAgent, with_token_row}
 use Rattle.bor_store_sql.specs.Shown.{StepsTo}
-use Rattle.bor_store_sql.proofs.Renewing.{one_agent, renewed_has, renewed_stored}
-use Rattle.bor_store_sql.proofs.Ending.{alters, ended}
+use Rattle.bor_store_sql.proofs.Changes.{one_agent, renewed_has, renewed_stored}
+use Rattle.bor_store_sql.proofs.Ending.{alters, ended, state}
 use Rattle.bor_store_sql.proofs.register.set_token.Goals as goal
 
 pub returns : goal.returns

@@ -1,5 +1,4 @@
-use Rattle.bor_store_sql.proofs.Dating.{day_updated}
-use Rattle.bor_store_sql.proofs.Moves.{moves_by}
+use Rattle.bor_store_sql.proofs.Changes.{day_updated, moves_by}
 use Rattle.bor_store_sql.proofs.register.update_day.Goals as goal
 
 pub returns-clause-steps : goal.returns-clause-steps

@@ -1,5 +1,4 @@
-use Rattle.bor_store_sql.proofs.Renewing.{token_updated}
-use Rattle.bor_store_sql.proofs.Moves.{moves_by}
+use Rattle.bor_store_sql.proofs.Changes.{token_updated, moves_by}
 use Rattle.bor_store_sql.proofs.register.update_token.Goals as goal
 
 pub returns-clause-steps : goal.returns-clause-steps

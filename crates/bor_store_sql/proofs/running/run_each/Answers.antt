@@ -4,12 +4,6 @@ use Rattle.sqlite.specs.Values.{bound}
 use Rattle.bor_store_sql.specs.Ran.{RanInTurn}
 use Rattle.bor_store_sql.proofs.running.run_each.Goals as goal
 
-pub loop-sql-init : goal.loop-sql-init
-loop-sql-init g c = record { same_reference = refl; on = λ new result h. h }
-
-pub returns-in_err-run-clause-same_reference : goal.returns-in_err-run-clause-same_reference
-returns-in_err-run-clause-same_reference g c = c.in_err-run.ensures.same_reference ∙ c.loop-sql.invariant.same_reference
-
 pub returns-in_err-run-clause-ran : goal.returns-in_err-run-clause-ran
 returns-in_err-run-clause-ran g c = record {
   in_turn = (
@@ -23,8 +17,5 @@ loop-sql-preserved g c =
       on = λ new result h. c.loop-sql.invariant.on new result (subst (λ xs. RanInTurn g.S.Store (map (λ x. x.now) xs) (bound c.args.params.now) c.loop-sql.tx.conn.now new result) (sym (drop_more c.args.texts.now c.loop-sql.sql-index _ c.loop-sql-test.true)) (inl (_, c.in_ok-run.ensures.ran, h)));
     }
 
-pub returns : goal.returns
-returns g c = record {
-  same_reference = c.loop-sql.invariant.same_reference;
-  ran = record { in_turn = c.loop-sql.invariant.on _ _ (subst (λ xs. RanInTurn g.S.Store (map (λ x. x.now) xs) (bound c.args.params.now) c.loop-sql.tx.conn.now c.loop-sql.tx.conn.now (Ok (tt {0}))) (sym (drop_all c.loop-sql.sql-index c.args.texts.now c.loop-sql-test.false)) (refl, refl)) };
-}
+pub returns-clause-ran : goal.returns-clause-ran
+returns-clause-ran g c = record { in_turn = c.loop-sql.invariant.on _ _ (subst (λ xs. RanInTurn g.S.Store (map (λ x. x.now) xs) (bound c.args.params.now) c.loop-sql.tx.conn.now c.loop-sql.tx.conn.now (Ok (tt {0}))) (sym (drop_all c.loop-sql.sql-index c.args.texts.now c.loop-sql-test.false)) (refl, refl)) }

@@ -1,6 +1,6 @@
 use Rattle.std.proofs.Common.{rules}
 use Rattle.bor_store_sql.specs.Rows.Encoding.{contents}
-use Rattle.bor_store_sql.proofs.WithdrawnContents.{once, now_has, still_stored}
+use Rattle.bor_store_sql.proofs.Contents.{once, now_has, still_stored}
 use Rattle.bor_store_sql.proofs.Ending.{alters, ended}
 use Rattle.bor_store_sql.proofs.withdrawal.withdraw_filing.Goals as goal
 

@@ -1,9 +1,6 @@
-use Rattle.bor_store_sql.proofs.Moves.{at_last, each_moves, each_open, then_change}
-use Rattle.bor_store_sql.proofs.Withdrawing.{filing_marked, identifiers_deleted, interests_deleted, periods_deleted, statements_deleted}
+use Rattle.bor_store_sql.proofs.Moves.{at_last, each_moves, then_change}
+use Rattle.bor_store_sql.proofs.Changes.{filing_marked, identifiers_deleted, interests_deleted, periods_deleted, statements_deleted}
 use Rattle.bor_store_sql.proofs.withdrawal.withdraw_rows.Goals as goal
-
-pub returns-clause-ran_open : goal.returns-clause-ran_open
-returns-clause-ran_open g c = each_open c.run_each.ensures.ran
 
 pub returns-clause-steps : goal.returns-clause-steps
 returns-clause-steps g c =

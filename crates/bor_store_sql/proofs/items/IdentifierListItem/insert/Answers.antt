@@ -1,5 +1,4 @@
-use Rattle.bor_store_sql.proofs.Adding.{identifier_put}
-use Rattle.bor_store_sql.proofs.Moves.{moves_by}
+use Rattle.bor_store_sql.proofs.Changes.{identifier_put, moves_by}
 use Rattle.bor_store_sql.proofs.items.IdentifierListItem.insert.Goals as goal
 
 pub returns-clause-steps : goal.returns-clause-steps

@@ -1,9 +1,6 @@
-use Rattle.bor_store_sql.proofs.Adding.{interest_put}
-use Rattle.bor_store_sql.proofs.Moves.{both_step, fails, moves_by}
+use Rattle.bor_store_sql.proofs.Changes.{interest_put}
+use Rattle.bor_store_sql.proofs.Moves.{both_step, moves_by}
 use Rattle.bor_store_sql.proofs.items.InterestListItem.insert.Goals as goal
-
-pub returns-in_err-run-clause-steps : goal.returns-in_err-run-clause-steps
-returns-in_err-run-clause-steps g c = fails c.from_residual.ensures.0 (moves_by c.in_err-run.ensures.ran c.interest_values.ensures (interest_put (record { at = c.args.at.now; item = c.args.number; interest = c.args.self.now })))
 
 pub returns-clause-steps : goal.returns-clause-steps
 returns-clause-steps g c =

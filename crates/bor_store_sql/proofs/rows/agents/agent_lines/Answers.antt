@@ -1,17 +1,8 @@
-use Rattle.std.proofs.Common.{◌≡◌, ◌∷◌, ◌+◌, drop, refl, sym}
+use Rattle.std.proofs.Common.{◌≡◌, ◌∷◌, ◌+◌, drop, sym}
 use Rattle.std.proofs.lemmas.List.{drop_all}
 use Rattle.bor_store_sql.proofs.OnRows.Lists.{next_row}
-use Rattle.bor_store_sql.proofs.OnRows.AgentLines.{one_line, all_lines}
+use Rattle.bor_store_sql.proofs.OnRows.Rebuilt.{one_line, all_lines}
 use Rattle.bor_store_sql.proofs.rows.agents.agent_lines.Goals as goal
-
-pub loop-agent-init : goal.loop-agent-init
-loop-agent-init c ms ordered rows filings = record {
-  left = ms;
-  ordered = ordered;
-  whole = rw c.new-lines.ensures.items refl;
-  rows_are = rows;
-  filings_are = filings;
-}
 
 pub loop-agent-preserved : goal.loop-agent-preserved
 loop-agent-preserved c ms ordered rows filings =

@@ -1,5 +1,4 @@
-use Rattle.std.proofs.Common.{◌≡◌, rules}
-use Rattle.std.specs.Prelude.{slice_get, Some}
+use Rattle.std.proofs.Common.{◌≡◌, rules, slice_get, Some}
 use Rattle.bor_store_sql.proofs.OnRows.Lists.{first_read}
 use Rattle.bor_store_sql.proofs.rows.answers.first_row.Goals as goal
 

@@ -1,21 +1,8 @@
-use Rattle.std.proofs.Common.{◌≡◌, ◌∷◌, [], length, refl, sym, ap, ◌∙◌, rules, arith}
+use Rattle.std.proofs.Common.{◌≡◌, ◌∷◌, [], length, sym, ap, ◌∙◌, rules, arith}
 use Rattle.std.specs.Vec.Iter.{into_iter_items}
 use Rattle.std.proofs.lemmas.List.{nil_from_length}
 use Rattle.bor_store_sql.proofs.OnRows.Joins.{one_more, none_left}
 use Rattle.bor_store_sql.proofs.rows.joining.joined.Goals as goal
-
-pub loop-row-init : goal.loop-row-init
-loop-row-init c = (
-  c.into_iter-row-iterator.ensures.into_iter_gives.1 ∙ search rules ∙ sym (ap length c.into_iter-row-iterator.ensures.into_iter_gives.0),
-  λ ps apart rows is ds. record {
-    left = ps;
-    whole = rw c.new-placed.ensures.items refl;
-    apart = apart;
-    rows_are = c.into_iter-row-iterator.ensures.into_iter_gives.0 ∙ rows;
-    interests_are = is;
-    identifiers_are = ds;
-  },
-)
 
 pub loop-row-preserved : goal.loop-row-preserved
 loop-row-preserved c =

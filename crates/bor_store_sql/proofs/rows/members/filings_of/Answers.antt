@@ -1,18 +1,8 @@
-use Rattle.std.proofs.Common.{◌≡◌, ◌∷◌, ◌+◌, drop, refl, sym}
+use Rattle.std.proofs.Common.{◌≡◌, ◌∷◌, ◌+◌, drop, sym}
 use Rattle.std.proofs.lemmas.List.{drop_all}
 use Rattle.bor_store_sql.proofs.OnRows.Lists.{next_row}
 use Rattle.bor_store_sql.proofs.OnRows.Rebuilt.{one_filing, all_filings}
 use Rattle.bor_store_sql.proofs.rows.members.filings_of.Goals as goal
-
-pub loop-filing-init : goal.loop-filing-init
-loop-filing-init c agent fs numbered rows statements = record {
-  left = fs;
-  from = 1;
-  numbered = numbered;
-  whole = rw c.new-own.ensures.items refl;
-  rows_are = rows;
-  statements_are = statements;
-}
 
 pub loop-filing-preserved : goal.loop-filing-preserved
 loop-filing-preserved c agent fs numbered rows statements =

@@ -1,19 +1,8 @@
-use Rattle.std.proofs.Common.{◌≡◌, ◌∷◌, ◌+◌, drop, refl, sym}
+use Rattle.std.proofs.Common.{◌≡◌, ◌∷◌, ◌+◌, drop, sym}
 use Rattle.std.proofs.lemmas.List.{drop_all}
 use Rattle.bor_store_sql.proofs.OnRows.Lists.{next_row}
 use Rattle.bor_store_sql.proofs.OnRows.Rebuilt.{one_member, all_members}
 use Rattle.bor_store_sql.proofs.rows.members.members_of.Goals as goal
-
-pub loop-agent-init : goal.loop-agent-init
-loop-agent-init c ms ordered numbered rows filings statements = record {
-  left = ms;
-  ordered = ordered;
-  numbered = numbered;
-  whole = rw c.new-members.ensures.items refl;
-  rows_are = rows;
-  filings_are = filings;
-  statements_are = statements;
-}
 
 pub loop-agent-preserved : goal.loop-agent-preserved
 loop-agent-preserved c ms ordered numbered rows filings statements =

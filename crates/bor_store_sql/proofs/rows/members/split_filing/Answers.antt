@@ -1,5 +1,4 @@
-use Rattle.std.proofs.Common.{rules}
-use Rattle.std.specs.Prelude.{◌==◌}
+use Rattle.std.proofs.Common.{rules, ◌==◌}
 use Rattle.bor_store_sql.proofs.rows.members.split_filing.Goals as goal
 
 pub returns : goal.returns

@@ -1,5 +1,4 @@
-use Rattle.std.proofs.Common.{◌≡◌, List, drop}
-use Rattle.std.specs.Prelude.{map, All}
+use Rattle.std.proofs.Common.{◌≡◌, List, drop, map, All}
 use Rattle.bor_store_sql.proofs.OnRows.Lists.{ToRead}
 use Rattle.bor_store_sql.proofs.rows.reader.read_rows.Given as goal
 

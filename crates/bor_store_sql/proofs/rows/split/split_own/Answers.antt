@@ -2,7 +2,7 @@ use Rattle.std.proofs.Common.{◌≡◌, ◌∷◌, ◌++◌, [], ◌∙◌, tru
 use Rattle.std.specs.List.{AllByRecursion}
 use Rattle.std.proofs.lemmas.List.{take_more}
 use Rattle.sqlite_keyed.proofs.ListLemmas.{all-append}
-use Rattle.bor_store_sql.proofs.OnRows.Leading.{stops}
+use Rattle.bor_store_sql.proofs.OnRows.Lists.{stops}
 use Rattle.bor_store_sql.proofs.rows.split.split_own.Goals as goal
 
 pub loop-count-preserved : goal.loop-count-preserved

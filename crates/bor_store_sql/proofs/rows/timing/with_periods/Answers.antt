@@ -1,20 +1,8 @@
-use Rattle.std.proofs.Common.{◌≡◌, ◌∷◌, [], length, refl, sym, ap, ◌∙◌, rules, arith}
+use Rattle.std.proofs.Common.{◌≡◌, ◌∷◌, [], length, refl, sym, ap, ◌∙◌, arith}
 use Rattle.std.specs.Vec.Iter.{into_iter_items}
 use Rattle.std.proofs.lemmas.List.{nil_from_length}
 use Rattle.bor_store_sql.proofs.OnRows.Timings.{one_more, none_left}
 use Rattle.bor_store_sql.proofs.rows.timing.with_periods.Goals as goal
-
-pub loop-line-init : goal.loop-line-init
-loop-line-init c = (
-  c.into_iter-line-iterator.ensures.into_iter_gives.1 ∙ search rules ∙ sym (ap length c.into_iter-line-iterator.ensures.into_iter_gives.0),
-  λ is several lines periods. record {
-    left = is;
-    whole = rw c.new-rows.ensures.items refl;
-    several = several;
-    lines_are = c.into_iter-line-iterator.ensures.into_iter_gives.0 ∙ lines;
-    periods_are = periods;
-  },
-)
 
 pub loop-line-preserved : goal.loop-line-preserved
 loop-line-preserved c =
