@@ -1,5 +1,5 @@
 -- The effects of the texts that change rows, and the register in tables whose day, version or tokens are new.
-use Rattle.std.proofs.Common.{◌≡◌, ℕ, ℤ, pos, ◌/◌, cond, false, slice_get, List, [], ◌∷◌, ◌++◌, length, Option, option_map, None, Some, refl, ◌^◌, nat_le, drop, ◌≤◌, true, arith, subst, ◌∙◌, map, filter, inl, inr, sym, ap, Ok, if◌then◌else◌, All}
+use Rattle.std.proofs.Common.{◌≡◌, ℕ, ℤ, pos, ◌/◌, cond, false, slice_get, List, [], ◌∷◌, ◌++◌, length, Option, Some, refl, ◌^◌, nat_le, drop, ◌≤◌, true, arith, subst, ◌∙◌, map, filter, inl, inr, sym, ap, Ok, if◌then◌else◌, All, rules}
 use Rattle.sqlite.specs.declared.types.Value.TheVariants.{Null, Int, Text}
 use Rattle.sqlite.specs.Kind.TheVariants.{Text as Words, Integer as Numbers}
 use Rattle.sqlite.specs.Cast.{cast, cast_all, cast_row}
@@ -13,16 +13,12 @@ use Rattle.sqlite_rules.specs.Action.{works}
 use Rattle.sqlite_schema.specs.declared.schema.Keys.TheVariants.{Enforced}
 use Rattle.bor_store_sql.specs.Kept.{Keeps}
 use Rattle.bor_store_sql.specs.Texts.Meanings.{Does}
-use Rattle.bor_terms.specs.Span.{Range}
-use Rattle.bods_read.specs.Words.{status_word}
 use Rattle.bor_register.specs.declared.filing.AcceptedFiling.{AcceptedFiling}
 use Rattle.bor_register.specs.declared.member.Member.{Member}
 use Rattle.bor_store_sql.specs.Texts.Tables.{keep_schema, agent_at, filing_at, filing_table, statement_at, statement_table, interest_at, interest_table, identifier_at, identifier_table, period_at, period_table, register_at}
 use Rattle.bor_store_sql.specs.Texts.Changes.{insert_agent_terms, insert_filing_terms, insert_statement_terms, insert_interest_terms, insert_identifier_terms, insert_period_terms, mark_withdrawn_program, equals_number, update_day_program, update_token_program, update_version_program}
 use Rattle.bor_store_sql.specs.declared.texts.changes.TheConstants.{INSERT_AGENT, INSERT_FILING, INSERT_STATEMENT, INSERT_INTEREST, INSERT_IDENTIFIER, INSERT_PERIOD, MARK_WITHDRAWN, DELETE_IDENTIFIERS, DELETE_INTERESTS, DELETE_PERIODS, DELETE_STATEMENTS, UPDATE_DAY, UPDATE_TOKEN, UPDATE_VERSION}
 use Rattle.bor_store_sql.proofs.OnTexts.ChangeMeanings.{insert_agent_is, insert_filing_is, insert_statement_is, insert_interest_is, insert_identifier_is, insert_period_is, mark_withdrawn_is, delete_identifiers_is, delete_interests_is, delete_periods_is, delete_statements_is, update_day_is, update_token_is, update_version_is}
-use Rattle.bor_store_sql.specs.declared.rows.typed.Part.{Part}
-use Rattle.bor_store_sql.specs.declared.rows.typed.Part.TheVariants as part
 use Rattle.bor_store_sql.specs.declared.rows.typed.StatementRow.{StatementRow}
 use Rattle.bor_store_sql.specs.declared.rows.typed.InterestRow.{InterestRow}
 use Rattle.bor_store_sql.specs.declared.rows.typed.IdentifierRow.{IdentifierRow}
@@ -57,39 +53,19 @@ use Rattle.bor_store_sql.specs.Moving.{IsOneVersion, is_the_row, versioned, with
 
 -- a nullable text column keeps a text and a null
 text_kept : (o : Option (List ℕ)) → cast Words (or_null o) ≡ or_null o
-text_kept None = refl
-text_kept (Some t) = refl
+text_kept o = search rules
 
 statement_kept : (s : StatementRow) → cast_all statement_table.columns (statement_columns s) ≡ statement_columns s
-statement_kept s = go s.part
-  where
-    go : (p : Part) → cast_all statement_table.columns (statement_columns (record s { part = p })) ≡ statement_columns (record s { part = p })
-    go (part.Entity kind name) = rw (cast_int (pos s.at.filing), cast_int (pos s.at.place), cast_int s.day, text_kept name, text_kept (option_map status_word s.status)) refl
-    go (part.Person kind name) = rw (cast_int (pos s.at.filing), cast_int (pos s.at.place), cast_int s.day, text_kept name, text_kept (option_map status_word s.status)) refl
-    go (part.Relationship subject party) = rw (cast_int (pos s.at.filing), cast_int (pos s.at.place), cast_int s.day, text_kept subject, text_kept party, text_kept (option_map status_word s.status)) refl
+statement_kept s = search (rules, cast_int, text_kept)
 
 statement_given : (s : StatementRow) → value_rows (statement_columns s) 14 (length insert_statement_terms / 14) insert_statement_terms ≡ (Null ∷ statement_columns s) ∷ []
-statement_given s = go s.part
-  where
-    go : (p : Part) → value_rows (statement_columns (record s { part = p })) 14 (length insert_statement_terms / 14) insert_statement_terms ≡ (Null ∷ statement_columns (record s { part = p })) ∷ []
-    go (part.Entity kind name) = refl
-    go (part.Person kind name) = refl
-    go (part.Relationship subject party) = refl
+statement_given s = search rules
 
 interest_kept : (i : InterestRow) → cast_all interest_table.columns (interest_columns i) ≡ interest_columns i
-interest_kept i = go i.interest.share
-  where
-    go : (o : Option Range) → cast_all interest_table.columns (interest_columns (record i { interest = record i.interest { share = o } })) ≡ interest_columns (record i { interest = record i.interest { share = o } })
-    go None = rw (cast_int (pos i.at.filing), cast_int (pos i.at.place), cast_int (pos i.item), cast_null) refl
-    go (Some r) = rw (cast_int (pos i.at.filing), cast_int (pos i.at.place), cast_int (pos i.item), cast_int (pos r.low), cast_int (pos r.high), cast_int (pos (cond r.low_open 1 0)), cast_int (pos (cond r.high_open 1 0))) refl
+interest_kept i = search (rules, cast_int, cast_null)
 
 interest_given : (i : InterestRow) → value_rows (interest_columns i) 11 (length insert_interest_terms / 11) insert_interest_terms ≡ (Null ∷ interest_columns i) ∷ []
-interest_given i = go i.interest.share
-  where
-    go : (o : Option Range) → value_rows (interest_columns (record i { interest = record i.interest { share = o } })) 11 (length insert_interest_terms / 11) insert_interest_terms
-        ≡ (Null ∷ interest_columns (record i { interest = record i.interest { share = o } })) ∷ []
-    go None = refl
-    go (Some r) = refl
+interest_given i = search rules
 
 identifier_kept : (i : IdentifierRow) → cast_all identifier_table.columns (identifier_columns i) ≡ identifier_columns i
 identifier_kept i = rw (cast_int (pos i.at.filing), cast_int (pos i.at.place), cast_int (pos i.item)) refl
@@ -99,8 +75,7 @@ filing_kept agent f = rw (cast_int (pos f.number), cast_int f.due, cast_int (pos
 
 -- a nullable column of numbers keeps a day and a null
 day_kept : (o : Option ℤ) → cast Numbers (day_or_null o) ≡ day_or_null o
-day_kept None = cast_null
-day_kept (Some day) = cast_int day
+day_kept o = search (rules, cast_null, cast_int)
 
 period_kept : (p : PeriodRow) → cast_all period_table.columns (period_columns p) ≡ period_columns p
 period_kept p = rw (cast_int (pos p.at.filing), cast_int (pos p.at.place), cast_int (pos p.item), day_kept p.starts, day_kept p.ends) refl
@@ -224,12 +199,7 @@ module _ (day : ℤ) where
   dated_has r db h = subst (λ (x : Row). Has (record (contents r) { register = x ∷ [] }) db) (dated_is r) h
 
   pub dated_stored : (r : Register) → IsDay day → IsStored r → IsStored (record r { day = day })
-  dated_stored r is s = record {
-    ordered = s.ordered;
-    numbered = s.numbered;
-    formed = record { day = is; registrar = s.formed.registrar; members = s.formed.members };
-    counted = s.counted;
-  }
+  dated_stored r is s = search rules
 
 -- ---- the UPDATE of an agent's token
 
@@ -298,10 +268,7 @@ module _ (agent token : List ℕ) where
   module _ {X : Type 0} (own : List ℕ → List AcceptedFiling → List X) (all : List Member → List X) (some : (m : Member) (ms : List Member) → all (m ∷ ms) ≡ own m.name m.filings ++ all ms) where
     unread : (ms : List Member) → all (with_token agent token ms) ≡ all ms
     unread [] = refl
-    unread (m ∷ ms) = elim (is_same m.name agent) as (λ b. all (if b then record m { token = token } ∷ ms else m ∷ with_token agent token ms) ≡ all (m ∷ ms)) [
-      | true ↦ some (record m { token = token }) ms ∙ sym (some m ms)
-      | false ↦ some m (with_token agent token ms) ∙ ap (λ l. own m.name m.filings ++ l) (unread ms) ∙ sym (some m ms)
-    ]
+    unread (m ∷ ms) = search (rules, unread ms)
 
   pub renewed_has : (r : Register) (db : Database) → IsOrdered r.members → Has (with_token_row agent token (contents r)) db → Has (contents (with_renewal agent token r)) db
   renewed_has r db up h =
@@ -320,10 +287,7 @@ module _ (agent token : List ℕ) where
 
   still_numbered : (ms : List Member) → AllNumbered ms → AllNumbered (with_token agent token ms)
   still_numbered [] up = tt
-  still_numbered (m ∷ ms) up = elim (is_same m.name agent) as (λ b. AllNumbered (if b then record m { token = token } ∷ ms else m ∷ with_token agent token ms)) [
-    | true ↦ up
-    | false ↦ (up.0, still_numbered ms up.1)
-  ]
+  still_numbered (m ∷ ms) up = search (rules, still_numbered ms)
 
   -- what holds of each member, and of each with the token, holds still
   module _ (P : Member → Type 0) (so : (m : Member) → P m → P (record m { token = token })) where
@@ -378,6 +342,4 @@ moved_is r = ap (λ (x : Row). record (contents r) { register = x ∷ [] }) (ver
 
 -- the tables once they are moved, with the rows of a register's days
 pub moved_has : (ps : List PeriodRow) (r : Register) (db : Database) → ps ≡ all_periods r.members → Has (with_version tables_version (record (first_contents r) { periods = map period_columns ps })) db → Has (contents r) db
-moved_has ps r db given has =
-    let rows : map period_columns ps ≡ (contents r).periods = ap (map period_columns) given ∙ periods_are (placed r.members) in
-    subst (λ t. Has t db) (ap (λ l. with_version tables_version (record (first_contents r) { periods = l })) rows ∙ moved_is r) has
+moved_has ps r db given has = search (rules, periods_are, moved_is)

@@ -1,5 +1,5 @@
 -- The tables of a register in which a filing is withdrawn, or to which a filing or an agent is added.
-use Rattle.std.proofs.Common.{◌≡◌, ℕ, pos, ◌+◌, ◌<◌, ◌≤◌, ◌==◌, ◌&&◌, Bool, true, false, not, cond, List, [], ◌∷◌, ◌++◌, map, filter, length, drop, inl, inr, refl, sym, ap, ap₂, subst, ◌∙◌, arith, ℤ, append-nil, IsPermutation, if◌then◌else◌}
+use Rattle.std.proofs.Common.{◌≡◌, ℕ, pos, ◌+◌, ◌<◌, ◌≤◌, ◌==◌, ◌&&◌, Bool, true, false, not, cond, List, [], ◌∷◌, ◌++◌, map, filter, length, drop, refl, sym, ap, ap₂, subst, ◌∙◌, arith, ℤ, append-nil, IsPermutation, if◌then◌else◌, rules}
 use Rattle.std.proofs.lemmas.List.Elements.{All-nil, All-cons, All-head, All-tail, filter-append}
 use Rattle.std.specs.List.{AllByRecursion, flat_map}
 use Rattle.std.proofs.lemmas.Bool.{cases_Bool}
@@ -47,22 +47,14 @@ begins agent number a n rest = ap₂ (λ x y. x && y) (text_test a agent) (and-t
 
 pub agents_with : (agent : List ℕ) (new : List AcceptedFiling) (ms : List Member) → map agent_columns (with_filings agent new ms) ≡ map agent_columns ms
 agents_with agent new [] = refl
-agents_with agent new (m ∷ ms) = elim (is_same m.name agent) as (λ b. map agent_columns (if b then record m { filings = new } ∷ ms else m ∷ with_filings agent new ms) ≡ map agent_columns (m ∷ ms)) [
-  | true ↦ refl
-  | false ↦ ap (λ l. agent_columns m ∷ l) (agents_with agent new ms)
-]
+agents_with agent new (m ∷ ms) = search (rules, agents_with agent new ms)
 
 module _ (agent : List ℕ) (number : ℕ) where
   -- ---- the filing among its agent's
 
   one_number : (n : ℕ) (fs : List AcceptedFiling) → AreNumbered n fs → length (filter (λ (f : AcceptedFiling). f.number == number) fs) ≤ 1
   one_number n [] up = omega arith
-  one_number n (f ∷ fs) up = elim (cases_Bool (f.number == number)) [
-    | inl e ↦
-        let here : number < n + 1 = let g = up.0 in grind (arith, nat_tests) in
-        rw (e, none_numbered number (n + 1) fs here up.1) (omega arith)
-    | inr e ↦ rw e (one_number (n + 1) fs up.1)
-  ]
+  one_number n (f ∷ fs) up = search (rules, cases_Bool, none_numbered, one_number (n + 1) fs)
 
   pub once : (ms : List Member) → IsOrdered ms → AllNumbered ms → length (filter (is_of_filing agent number) (filing_rows ms)) ≤ 1
   once ms up numbers =
@@ -148,18 +140,13 @@ module _ (agent : List ℕ) (number : ℕ) where
       ∙ ap (map columns) (filter_same (λ x. not (is_of_filing agent number (columns x))) (λ x. stays_at (at_of x)) (λ x. ap not (begin x)) (flat_map rows ps) ∙ rows_at at_of stays_at rows stand ps ∙ ap (flat_map rows) gone) ∙ are qs
 
   statement_rows_gone : (ps : List Placed) → others agent number (map (λ p. statement_columns (bare p)) ps) ≡ map (λ p. statement_columns (bare p)) (filter stays ps)
-  statement_rows_gone ps =
-      filter-map (λ x. not (is_of_filing agent number x)) (λ p. statement_columns (bare p)) ps
-      ∙ ap (map (λ p. statement_columns (bare p))) (filter_same (λ p. not (is_of_filing agent number (statement_columns (bare p)))) stays (λ p. ap not (begins agent number p.at.agent p.at.filing (drop 2 (statement_columns (bare p))))) ps)
+  statement_rows_gone ps = search (rules, filter-map, begins)
 
   -- ---- what is stored stays in order
 
   still_numbered : (n : ℕ) (fs : List AcceptedFiling) → AreNumbered n fs → AreNumbered n (with_withdrawn number fs)
   still_numbered n [] up = tt
-  still_numbered n (f ∷ fs) up = elim (f.number == number) as (λ b. AreNumbered n (if b then as_withdrawn f ∷ fs else f ∷ with_withdrawn number fs)) [
-    | true ↦ up
-    | false ↦ (up.0, still_numbered (n + 1) fs up.1)
-  ]
+  still_numbered n (f ∷ fs) up = search (rules, still_numbered (n + 1) fs)
 
   none_counted : AreCounted []
   none_counted = record { few = omega arith; each = All-nil IsCounted }
@@ -176,10 +163,7 @@ module _ (agent : List ℕ) (number : ℕ) where
 
   pub still_stored : (r : Register) → IsStored r → IsStored (withdrawn agent number r)
   still_stored r s =
-      stored_with (changed r.members) r s (ordered-with_filings agent _ r.members s.ordered)
-      (numbered_with agent _ r.members (still_numbered 1 (filings_of agent r.members) (numbered_of agent r.members s.numbered)) s.numbered)
-      (formed-with_filings agent _ r.members (formed-with_withdrawn number (filings_of agent r.members) (formed-filings_of agent r.members s.formed.members)) s.formed.members)
-      (counted_with agent _ r.members (still_counted (filings_of agent r.members) (counted_of agent r.members s.counted)) s.counted)
+      search (rules, stored_with, ordered-with_filings, numbered_with, still_numbered, numbered_of, formed-with_filings, formed-with_withdrawn, formed-filings_of, counted_with, still_counted, counted_of)
 
   -- the tables of the register once the filing is withdrawn
   pub now_has : (r : Register) (db : Database) → IsStored r → Has (withdrawn_in agent number (contents r)) db → Has (contents (withdrawn agent number r)) db

@@ -1,5 +1,5 @@
 -- The effects of the texts that make the tables and their indexes and put down the register's row.
-use Rattle.std.proofs.Common.{◌≡◌, ℕ, ℤ, pos, List, [], ◌∷◌, slice_get, true, false, None, Some, Ok, Result, refl, sym, ap, subst, ◌∙◌, ◌≤◌, ◌+◌, Bool, ◌&&◌, ◌||◌, IsTrue, ◌++◌, append-nil, length, zero, suc, MatchBool, inl, inr, arith, ◌≢◌, ◌<◌, Err}
+use Rattle.std.proofs.Common.{◌≡◌, ℕ, ℤ, pos, List, [], ◌∷◌, slice_get, true, false, None, Some, Ok, Result, refl, sym, ap, subst, ◌∙◌, ◌≤◌, ◌+◌, Bool, ◌&&◌, ◌||◌, IsTrue, ◌++◌, append-nil, length, zero, suc, MatchBool, inl, inr, arith, ◌≢◌, ◌<◌, rules}
 use Rattle.std.specs.List.{AllByRecursion, list_any}
 use Rattle.std.proofs.lemmas.List.Elements.{All-nil}
 use Rattle.std.proofs.lemmas.List.Sorted.{IsPermutation-refl}
@@ -88,12 +88,7 @@ module _ (sql : List ℕ) (schema : Schema) (table : Table) (is : IsTableText sq
       subst (Added schema table old.now) (sym now) (record { sound = subst IsDatabase now w.sound; schema_is = schema_is; empty = none; kept = kept })
 
   pub table_made : Making sql [] (λ was is. IsBlank schema was → IsBlank (created schema table) is)
-  table_made old new count h blank =
-      let it = table_added old new count blank.is h in
-      record {
-        is = it.schema_is;
-        empty = all-append (λ t. new.now.trees t.tree ≡ []) schema.tables (record table { tree = next_tree schema } ∷ []) (still_empty schema.tables old.now.trees new.now.trees blank.empty it.kept) (it.empty, tt);
-      }
+  table_made old new count h blank = search (rules, table_added, all-append, still_empty)
 
 module _ (sql : List ℕ) (schema : Schema) (at tree : ℕ) (table : Table) (index : Index) (is : IsIndexText sql table index) (named : table_named schema table.name ≡ Some at)
     (found : slice_get schema.tables at ≡ Some (record table { tree = tree })) where
@@ -126,15 +121,7 @@ pub none_kept : (rows : List Row) → rows ≡ [] → Keeps [] rows
 none_kept rows none = record { stored = []; under = none; same = IsPermutation-refl [] }
 
 blank_has : (db : Database) → IsBlank first_schema db → HasFirst no_contents db
-blank_has db blank = record {
-  schema = blank.is;
-  register = none_kept _ blank.empty.0;
-  agents = none_kept _ blank.empty.1.0;
-  filings = none_kept _ blank.empty.1.1.0;
-  statements = none_kept _ blank.empty.1.1.1.0;
-  interests = none_kept _ blank.empty.1.1.1.1.0;
-  identifiers = none_kept _ blank.empty.1.1.1.1.1.0;
-}
+blank_has db blank = search rules
 
 -- one after the other
 pub both_lead : (first between last : Database → Type 0) (old mid new : State) (result : Result (Unit {0}) Error) → LeadsBetween first between old mid (Ok (tt {0})) → LeadsBetween between last mid new result → LeadsBetween first last old new result
@@ -187,24 +174,14 @@ period_made old new count t has h =
 
 -- all that stood there stands there still
 all_kept : (db : Database) → Spares db db
-all_kept db = record {
-  tables = ([], sym (append-nil db.schema.tables), tt);
-  indexes = ([], sym (append-nil db.schema.indexes), tt);
-  views = refl;
-  rows = all_from (λ (t : Table). db.trees t.tree ≡ db.trees t.tree) db.schema.tables (λ t has. refl);
-}
+all_kept db = search (rules, append-nil, all_from)
 
 automatics_past : (table : Table) (at low tree : ℕ) (keys : List (List ℕ)) → low ≤ tree → AllByRecursion (λ (i : Index). low ≤ i.tree) (automatics table at tree keys)
 automatics_past table at low tree [] h = tt
 automatics_past table at low tree (key ∷ keys) h = (h, automatics_past table (at + 1) low (tree + 1) keys (omega (arith, h)))
 
 table_spares : (text : List ℕ) (old after : Database) → MakesTable text old (Ok after) → Spares old after
-table_spares text old after made = record {
-  tables = (record made.table { tree = next_tree old.schema } ∷ [], ap (λ (s : Schema). s.tables) made.is, (omega arith, tt));
-  indexes = (automatics (record made.table { tree = next_tree old.schema }) 0 (next_tree old.schema + 1) made.table.uniques, ap (λ (s : Schema). s.indexes) made.is, automatics_past (record made.table { tree = next_tree old.schema }) 0 (next_tree old.schema) (next_tree old.schema + 1) made.table.uniques (omega arith));
-  views = ap (λ (s : Schema). s.views) made.is;
-  rows = made.others;
-}
+table_spares text old after made = search (rules, automatics_past)
 
 table_adds : (text : List ℕ) (table : Table) (old after : Database) → table_defined_by text ≡ Ok table → MakesTable text old (Ok after) → HasTable after table (next_tree old.schema) []
 table_adds text table old after defined made =
@@ -235,11 +212,7 @@ no_index_past : (P : Index → Type 0) (schema : Schema) (i : Index) → HasItem
 no_index_past P schema i has low = absurd (omega (arith, low, index_below schema i has))
 
 none_made : (tables : List Table) (indexes : List (Table × Index)) (schema : Schema) → MakesOnly tables indexes schema schema
-none_made tables indexes schema = record {
-  tables_are = all_from (λ (t : Table). next_tree schema ≤ t.tree → IsTableMade tables schema t) schema.tables (no_table_past (IsTableMade tables schema) schema);
-  indexes_are = all_from (λ (i : Index). next_tree schema ≤ i.tree → IsIndexMade indexes schema schema i) schema.indexes (no_index_past (IsIndexMade indexes schema schema) schema);
-  counts = refl;
-}
+none_made tables indexes schema = search (rules, all_from, no_table_past, no_index_past)
 
 counts_still : (tables : List Table) (table : Table) → table.is_counted ≡ false → list_any (λ (t : Table). t.is_counted) (tables ++ table ∷ []) ≡ list_any (λ (t : Table). t.is_counted) tables
 counts_still [] table none = rw none
@@ -255,10 +228,7 @@ key_of table (key ∷ keys) at tree i (inr h) =
     (suc r.0, r.1, r.2, rw same r.3)
 
 of_key : (table : Table) (tree : ℕ) (i : Index) → HasItem (automatics table 0 tree table.uniques) i → IsOfKey table i
-of_key table tree i h =
-    let r = key_of table table.uniques 0 tree i h in
-    let same : 0 + r.0 ≡ r.0 = omega arith in
-    (r.0, r.1, r.2, subst (λ k. i ≡ automatic table k r.1 i.tree) same r.3)
+of_key table tree i h = search (rules, key_of)
 
 -- a table that is made is the only one, and its indexes are those of its keys
 module _ (tables : List Table) (old : Schema) (table : Table) (uncounted : table.is_counted ≡ false) (are : (t : Table) → t ≡ record table { tree = t.tree } → IsTableMade tables old t) where
@@ -279,11 +249,7 @@ module _ (tables : List Table) (old : Schema) (table : Table) (uncounted : table
   ]
 
   created_only : MakesOnly tables [] old (created old table)
-  created_only = record {
-    tables_are = all_from (λ (t : Table). next_tree old ≤ t.tree → IsTableMade tables old t) (created old table).tables table_only;
-    indexes_are = all_from (λ (i : Index). next_tree old ≤ i.tree → IsIndexMade [] old (created old table) i) (created old table).indexes keys_only;
-    counts = counts_still old.tables it uncounted;
-  }
+  created_only = search (rules, all_from, table_only, keys_only, counts_still)
 
 made_only : (text : List ℕ) (table : Table) (old after : Database) → table.is_counted ≡ false → table_defined_by text ≡ Ok table → MakesTable text old (Ok after) → MakesOnly (table ∷ []) [] old.schema after.schema
 made_only text table old after uncounted defined made =
@@ -301,8 +267,7 @@ then_only true mid after counts made = sequence_only mid after (counts refl) mad
 then_only false mid after counts same = subst (λ (db : Database). MakesOnly [] [] mid.schema db.schema) (sym (same_value same)) (none_made [] [] mid.schema)
 
 first_true : (a b : Bool) → (a && b) ≡ true → IsTrue a
-first_true true b h = refl
-first_true false b h = h
+first_true a b h = search rules
 
 -- ---- a text that is run
 
@@ -330,12 +295,7 @@ module _ (text : List ℕ) (table : Table) (is : IsTableText text table) (uncoun
 -- ---- an index
 
 index_spares : (text : List ℕ) (old after : Database) (table : Table) → MakesIndex text old table (Ok after) → Spares old after
-index_spares text old after table made = record {
-  tables = ([], ap (λ (s : Schema). s.tables) made.is ∙ sym (append-nil old.schema.tables), tt);
-  indexes = (record made.index { tree = next_tree old.schema; table = table.tree } ∷ [], ap (λ (s : Schema). s.indexes) made.is, (omega arith, tt));
-  views = ap (λ (s : Schema). s.views) made.is;
-  rows = made.rows;
-}
+index_spares text old after table made = search rules
 
 -- the index alone is made
 module _ (old : Schema) (table on : Table) (at : ℕ) (named : table_named old table.name ≡ Some at) (got : slice_get old.tables at ≡ Some on) (made index : Index) (tree : ℕ) (same : made ≡ record index { tree = 0; table = tree }) where
@@ -349,11 +309,7 @@ module _ (old : Schema) (table on : Table) (at : ℕ) (named : table_named old t
   ]
 
   indexed_only : MakesOnly [] ((table, index) ∷ []) old (indexed old on made)
-  indexed_only = record {
-    tables_are = all_from (λ (t : Table). next_tree old ≤ t.tree → IsTableMade [] old t) old.tables (no_table_past (IsTableMade [] old) old);
-    indexes_are = all_from (λ (i : Index). next_tree old ≤ i.tree → IsIndexMade ((table, index) ∷ []) old (indexed old on made) i) (indexed old on made).indexes index_only;
-    counts = refl;
-  }
+  indexed_only = search (rules, all_from, no_table_past, index_only)
 
 index_there : (text : List ℕ) (table : Table) (index : Index) (old after : Database) (at tree : ℕ) (on : Table) → index_defined_by (record table { tree = tree }) text ≡ Ok (record index { tree = 0; table = tree })
     → MakesIndex text old on (Ok after) → table_named old.schema table.name ≡ Some at → slice_get old.schema.tables at ≡ Some on → (rows : List Row) → HasTable old table tree rows
@@ -403,8 +359,7 @@ module _ (text : List ℕ) (table : Table) (index : Index) (is : IsIndexText tex
 -- ---- the register's row, whatever stands in the database: what stands beside the row
 
 understood_insert : (at : ℕ) (source : Source) (r : Result Compiled CompileError) → IsInsert at source r → (command_of r ≡ Insert at source) × IsPlain r
-understood_insert at source (Ok c) is = is
-understood_insert at source (Err e) is = absurd is
+understood_insert at source r is = search rules
 
 module _ (old new : Database) (tree : ℕ) (schema_is : new.schema ≡ old.schema) (kept : AllByRecursion (λ t. t.tree ≢ tree → new.trees t.tree ≡ old.trees t.tree) old.schema.tables) where
   kept_at : (t : Table) → HasItem old.schema.tables t → t.tree ≢ tree → new.trees t.tree ≡ old.trees t.tree

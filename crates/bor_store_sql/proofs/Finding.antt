@@ -1,5 +1,5 @@
 -- The rows that a query gives of a register that is shown.
-use Rattle.std.proofs.Common.{◌≡◌, inl, inr, ℕ, List, [], Vec, Ok, Err, Result, IfOk, refl, sym, ap, subst, ◌∙◌}
+use Rattle.std.proofs.Common.{◌≡◌, inl, inr, ℕ, List, [], Vec, Result, IfOk, refl, sym, ap, subst, ◌∙◌, rules}
 use Rattle.std.proofs.lemmas.Result.{IfOk-weaker}
 use Rattle.std.specs.declared.alloc.Global.{Global}
 use Rattle.sqlite.specs.declared.types.Value.TheVariants.{Null}
@@ -29,8 +29,7 @@ settled_shown text params old new settled result h = IfOk-weaker result (λ x. S
 
 -- what is known is so where rows come
 pub known : {X E P : Type 0} (result : Result X E) → P → IfOk result (λ x. P)
-known (Ok x) p = p
-known (Err e) p = tt
+known result p = search rules
 
 -- of a register that is shown in this way the query gives these rows
 pub record Found (IsShown : Register → State → Type 0) (text : List ℕ) (params : Row) (rows_of : Register → List Row) : Type 1 where
@@ -44,16 +43,7 @@ found_as found same = record { query = found.query; gives = λ r old new rows sh
 -- what is asked is found, if the query is given what it is said to be given
 pub finds : {IsShown : Register → State → Type 0} {text : List ℕ} {params given : Row} {rows_of : Register → List Row} {old new : State} {result : Result (Vec Row Global) Error} → (IsQuery text → AnswersQuery text given old new result) → given ≡ params
     → Found IsShown text params rows_of → FindsRows IsShown old new result rows_of
-finds {IsShown} {text} {params} {rows_of = rows_of} {old} {new} {result} answers is found =
-    let asked = answers found.query in
-    record {
-      reads = asked.reads;
-      settled = asked.settled;
-      up = asked.up;
-      rows = λ clean r shows.
-          IfOk-weaker result (λ rows. Shows text params old new rows.items) (λ rows. rows.items ≡ rows_of r) (λ rows h. found.gives r old new rows.items shows h)
-          (subst (λ row. IfOk result (λ rows. Shows text row old new rows.items)) is (asked.shown clean));
-    }
+finds {IsShown} {text} {params} {rows_of = rows_of} {old} {new} {result} answers is found = search rules
 
 module _ (r : Register) (old new : State) (shows : ShowsIn r old) (settled : old.now ≡ old.committed) where
   pub has_now : Has (contents r) old.now
@@ -112,10 +102,4 @@ pub nothing_read : {s : State} → ReadsOnly s s
 nothing_read = record { mode = refl; clean = λ clean. clean; stops = λ clean trees left. left; began = λ clean. clean; kept = λ clean. refl }
 
 pub read_on : {old mid new : State} → ReadsOnly old mid → ReadsOnly mid new → ReadsOnly old new
-read_on first second = record {
-  mode = second.mode ∙ first.mode;
-  clean = λ clean. first.clean (second.clean clean);
-  stops = λ clean trees left. first.stops (second.clean clean) trees (second.stops clean trees left);
-  began = λ clean. first.began (second.began clean);
-  kept = λ clean. second.kept clean ∙ first.kept (second.began clean);
-}
+read_on first second = search rules

@@ -1,5 +1,5 @@
 -- Whether what a file says is what is kept of its filing.
-use Rattle.std.proofs.Common.{◌≡◌, ℕ, zero, suc, ◌+◌, ◌<◌, List, [], ◌∷◌, take, length, get_or, refl, sym, ap₂, subst, ◌∙◌, arith, ◌↔◌, Bool, true, false, true≢false, Vec, Result, Ok, IfOk, IsTrue, ◌⊎◌, inl, inr, ◌==◌, ◌++◌, map, append-nil, is_some, Option, Some, None, option_map, ap, slice_set, All, flat_map}
+use Rattle.std.proofs.Common.{◌≡◌, ℕ, zero, suc, ◌+◌, ◌<◌, List, [], ◌∷◌, take, length, get_or, refl, sym, ap₂, subst, ◌∙◌, arith, ◌↔◌, Bool, true, false, true≢false, Vec, Result, Ok, IfOk, IsTrue, ◌⊎◌, ◌==◌, map, append-nil, is_some, Option, Some, None, option_map, ap, slice_set, All, flat_map, rules}
 use Rattle.bor_store_sql.specs.Fitting.{Pairwise, TellsWhether, Fit, FitsAt, IsKept, columns_beside, standing, statements_kept, with_status}
 use Rattle.std.specs.declared.alloc.Global.{Global}
 use Rattle.std.proofs.lemmas.Result.{IfOk-weaker}
@@ -7,7 +7,7 @@ use Rattle.sqlite.specs.Order.{Row, column}
 use Rattle.sqlite.specs.State.{State}
 use Rattle.sqlite.specs.declared.error.Error.{Error}
 use Rattle.bor_register.specs.Register.{Register, filings_of}
-use Rattle.bor_store_sql.specs.Rows.Encoding.{contents, identifier_columns, interest_columns, or_null, statement_columns}
+use Rattle.bor_store_sql.specs.Rows.Encoding.{contents, or_null, statement_columns}
 use Rattle.bor_store_sql.specs.Found.{FindsRows, ReadsOnly}
 use Rattle.bor_store_sql.specs.Shown.{HasLists, IsClean, ShowsLists}
 use Rattle.bor_store_sql.proofs.Finding.{read_on}
@@ -46,26 +46,16 @@ module _ {A B : Type 0} (P : ℕ → A → B → Type 0) where
   pub pair_at : (n i : ℕ) (xs : List A) (ys : List B) (x : A) (y : B) → i < length xs → x ≡ get_or xs i x → y ≡ get_or ys i y → Pairwise P n xs ys → P (n + i) x y
   pair_at n i [] ys x y lt e f h = absurd (omega (arith, lt))
   pair_at n i (a ∷ xs) [] x y lt e f h = absurd h
-  pair_at n zero (a ∷ xs) (b ∷ ys) x y lt e f h =
-      let here : n ≡ n + 0 = omega arith in
-      subst (λ m. P m x y) here (subst (λ z. P n z y) (sym e) (subst (P n a) (sym f) h.0))
-  pair_at n (suc i) (a ∷ xs) (b ∷ ys) x y lt e f h =
-      let here : (n + 1) + i ≡ n + suc i = omega arith in
-      subst (λ m. P m x y) here (pair_at (n + 1) i xs ys x y (omega (arith, lt)) e f h.1)
+  pair_at n zero (a ∷ xs) (b ∷ ys) x y lt e f h = search rules
+  pair_at n (suc i) (a ∷ xs) (b ∷ ys) x y lt e f h = search (rules, pair_at (n + 1) i xs ys x y)
 
   -- one pair more
   pub one_more : (n i m : ℕ) (xs : List A) (ys : List B) (x : A) (y : B) → i < length xs → i < length ys → x ≡ get_or xs i x → y ≡ get_or ys i y → m ≡ n + i
       → Pairwise P n (take i xs) (take i ys) → P m x y → Pairwise P n (take (i + 1) xs) (take (i + 1) ys)
   one_more n i m [] ys x y lt below e f is h p = absurd (omega (arith, lt))
   one_more n i m (a ∷ xs) [] x y lt below e f is h p = absurd (omega (arith, below))
-  one_more n zero m (a ∷ xs) (b ∷ ys) x y lt below e f is h p =
-      let here : m ≡ n = omega (arith, is) in
-      (subst (λ k. P k a b) here (subst (λ z. P m z b) e (subst (P m x) f p)), tt)
-  one_more n (suc i) m (a ∷ xs) (b ∷ ys) x y lt below e f is h p =
-      let next : suc (i + 1) ≡ suc i + 1 = omega arith in
-      let there : m ≡ (n + 1) + i = omega (arith, is) in
-      let more : Pairwise P n (take (suc (i + 1)) (a ∷ xs)) (take (suc (i + 1)) (b ∷ ys)) = (h.0, one_more (n + 1) i m xs ys x y (omega (arith, lt)) (omega (arith, below)) e f there h.1 p) in
-      subst (λ k. Pairwise P n (take k (a ∷ xs)) (take k (b ∷ ys))) next more
+  one_more n zero m (a ∷ xs) (b ∷ ys) x y lt below e f is h p = search rules
+  one_more n (suc i) m (a ∷ xs) (b ∷ ys) x y lt below e f is h p = search (rules, one_more (n + 1) i m xs ys x y)
 
 -- a list that is made of another's elements, each with its number
 module _ {X Y : Type 0} (make : ℕ → X → Y) (from : ℕ → List X → List Y) (none : (n : ℕ) → from n [] ≡ []) (some : (n : ℕ) (x : X) (xs : List X) → from n (x ∷ xs) ≡ make n x ∷ from (n + 1) xs) where
@@ -82,11 +72,7 @@ module _ {X Y : Type 0} (make : ℕ → X → Y) (from : ℕ → List X → List
   all_made n [] [] e = tt
   all_made n [] (y ∷ ys) e = let no : [] ≡ y ∷ ys = sym (none n) ∙ e in absurd cc
   all_made n (x ∷ xs) [] e = let no : make n x ∷ from (n + 1) xs ≡ [] = sym (some n x xs) ∙ e in absurd cc
-  all_made n (x ∷ xs) (y ∷ ys) e =
-      let both : make n x ∷ from (n + 1) xs ≡ y ∷ ys = sym (some n x xs) ∙ e in
-      let first : y ≡ make n x = cc in
-      let rest : from (n + 1) xs ≡ ys = cc in
-      (first, all_made (n + 1) xs ys rest)
+  all_made n (x ∷ xs) (y ∷ ys) e = search (rules, all_made (n + 1) xs ys)
 
 -- ---- the answers of tables that are asked
 
@@ -109,20 +95,12 @@ module _ (old new : State) (reads : ReadsOnly old new) where
 
 -- what is told where one thing of several doesn't hold
 pub told_unless : {P Q : Register → Type 0} (old new : State) (b : Bool) → b ≡ false → TellsWhether old new (Ok b) P → ((r : Register) → Q r → P r) → TellsWhether old new (Ok false) Q
-told_unless old new b untrue tells needs = record {
-  reads = tells.reads;
-  told = λ clean r shows. (λ e. absurd (true≢false (sym e)), λ q. absurd (true≢false (sym ((tells.told clean r shows).1 (needs r q)) ∙ untrue)));
-}
+told_unless old new b untrue tells needs = search rules
 
 -- what is told of the rows that a query finds
 pub told_of_rows : (P : List Row → Type 0) {Holds : Register → Type 0} (old new : State) (rows : Vec Row Global) (rows_of : Register → List Row) (given : List Row) (result : Result Bool Error) → FindsRows ShowsLists old new (Ok rows) rows_of → given ≡ rows.items
     → IfOk result (λ b. IsTrue b ↔ P given) → ((r : Register) → P (rows_of r) ↔ Holds r) → TellsWhether old new result Holds
-told_of_rows P {Holds} old new rows rows_of given result found is h same = record {
-  reads = found.reads;
-  told = λ clean r shows.
-      let are = is ∙ found.rows clean r shows in
-      IfOk-weaker result (λ b. IsTrue b ↔ P given) (λ b. IsTrue b ↔ Holds r) (λ b k. (λ e. (same r).0 (subst P are (k.0 e)), λ q. k.1 (subst P (sym are) ((same r).1 q)))) h;
-}
+told_of_rows P {Holds} old new rows rows_of given result found is h same = search rules
 
 -- ---- the rows of statements that are kept, and of those that a file says: the status of a row
 
@@ -130,8 +108,7 @@ abbrev status_value : Option Status → Value
 status_value status = or_null (option_map status_word status)
 
 bound_status : (o : Option Status) → bound_value (status_value o) ≡ status_value o
-bound_status None = refl
-bound_status (Some status) = refl
+bound_status o = search rules
 
 same_status : (o : Option Status) (status : Status) → status_value o ≡ Text (status_word status) → o ≡ Some status
 same_status None status e = absurd cc
@@ -139,12 +116,10 @@ same_status (Some other) status e = let words : status_word other ≡ status_wor
 
 -- the values of a statement that says no status, with the one that a row has, and those of one that says it
 pub beside_none : (row : Row) (o : Option Status) (values : List ValueRef) (x : Row) (v : ValueRef) → is_some o ≡ false → bound values ≡ x → owned v ≡ column row 8 → bound (slice_set values 8 v) ≡ columns_beside row o x
-beside_none row None values x v e is own = map-set (λ (u : ValueRef). bound_value (owned u)) values 8 v ∙ ap₂ (λ l u. slice_set l 8 (bound_value u)) is own
-beside_none row (Some status) values x v e is own = absurd (true≢false e)
+beside_none row o values x v e is own = search (rules, map-set)
 
 pub beside_some : (row : Row) (o : Option Status) (values : List ValueRef) (x : Row) → is_some o ≡ true → bound values ≡ x → bound values ≡ columns_beside row o x
-beside_some row None values x e is = absurd (true≢false (sym e))
-beside_some row (Some status) values x e is = is
+beside_some row o values x e is = search rules
 
 -- ---- one statement
 
@@ -156,15 +131,7 @@ module _ (agent : List ℕ) (number place : ℕ) (said kept : Statement) where
   kept_row = statement_columns (bare (standing agent number place kept))
 
   row_fits : (o : Option Status) → kept_row ≡ columns_beside kept_row o (as_said o) → ((o ≡ None) ⊎ (o ≡ kept.status)) × (as_said kept.status ≡ kept_row)
-  row_fits None e = (inl refl, sym (e ∙ ap (λ v. slice_set (as_said None) 8 v) (bound_status kept.status)))
-  row_fits (Some status) e =
-      let same : kept.status ≡ Some status = same_status kept.status status (ap (λ x. column x 8) e) in
-      (inr (sym same), ap as_said same ∙ sym e)
-
-  fits_row : (o : Option Status) → (o ≡ None) ⊎ (o ≡ kept.status) → as_said kept.status ≡ kept_row → kept_row ≡ columns_beside kept_row o (as_said o)
-  fits_row None h e = sym e ∙ sym (ap (λ v. slice_set (as_said None) 8 v) (bound_status kept.status))
-  fits_row (Some status) (inl unsaid) e = absurd cc
-  fits_row (Some status) (inr same) e = sym e ∙ ap as_said (sym same)
+  row_fits o e = search (rules, bound_status, same_status)
 
   module _ (ms : List Member) (alone : IsAlone (placed ms) (standing agent number place kept)) where
     abbrev p : Placed
@@ -177,21 +144,10 @@ module _ (agent : List ℕ) (number place : ℕ) (said kept : Statement) where
     own_identifiers = ap (flat_map identifier_rows) alone ∙ append-nil (identifier_rows p)
 
     fits_of_kept : IsKept agent number ms place said kept_row → FitsAt agent number place said kept
-    fits_of_kept h = record {
-      status = (row_fits said.status h.row).0;
-      statement = (row_fits said.status h.row).1;
-      interests = h.lists.interests ∙ ap (map interest_columns) own_interests;
-      identifiers = h.lists.identifiers ∙ ap (map identifier_columns) own_identifiers;
-    }
+    fits_of_kept h = search (rules, row_fits, own_interests, own_identifiers)
 
     kept_of_fits : FitsAt agent number place said kept → IsKept agent number ms place said kept_row
-    kept_of_fits h = record {
-      row = fits_row said.status h.status h.statement;
-      lists = record {
-        interests = h.interests ∙ sym (ap (map interest_columns) own_interests);
-        identifiers = h.identifiers ∙ sym (ap (map identifier_columns) own_identifiers);
-      };
-    }
+    kept_of_fits h = search rules
 
 -- ---- all statements of a filing
 
@@ -218,15 +174,7 @@ statements_of fs = flat_map (λ (f : AcceptedFiling). f.statements) fs
 
 filed : (agent : List ℕ) (number n : ℕ) (fs : List AcceptedFiling) → AreNumbered n fs → in_filing number (placed_by agent fs) ≡ placed_from agent number 1 (statements_of (numbered number fs))
 filed agent number n [] h = refl
-filed agent number n (f ∷ fs) h = filter-append (λ (p : Placed). p.at.filing == number) (placed_from agent f.number 1 f.statements) (placed_by agent fs) ∙ elim (cases_Bool (f.number == number)) [
-  | inl e ↦
-      let same : f.number ≡ number = is_number f.number number e in
-      let low : number < n + 1 = let is = h.0 in omega (arith, is, same) in
-      let alone : statements_of (numbered number (f ∷ fs)) ≡ f.statements = rw e (ap (λ l. f.statements ++ statements_of l) (none_numbered number (n + 1) fs low h.1) ∙ append-nil f.statements) in
-      ap₂ (λ x y. x ++ y) (subst (λ m. in_filing number (placed_from agent m 1 f.statements) ≡ placed_from agent number 1 f.statements) (sym same) (own_filing agent number 1 f.statements)) (none_filed agent number (n + 1) fs low h.1)
-      ∙ append-nil (placed_from agent number 1 f.statements) ∙ ap (placed_from agent number 1) (sym alone)
-  | inr e ↦ rw e (ap₂ (λ x y. x ++ y) (other_filing agent number f.number 1 f.statements e) (filed agent number (n + 1) fs h.1))
-]
+filed agent number n (f ∷ fs) h = search (rules, filter-append, cases_Bool, is_number, none_numbered, append-nil, own_filing, none_filed, other_filing, filed agent number (n + 1) fs)
 
 module _ (agent : List ℕ) (number : ℕ) (r : Register) (stored : IsStored r) where
   kept_filed : in_filing number (placed_of agent r) ≡ placed_from agent number 1 (statements_kept agent number r)
@@ -238,6 +186,4 @@ module _ (agent : List ℕ) (number : ℕ) (r : Register) (stored : IsStored r) 
   -- the rows that are found fit where the statements do
   pub rows_fit : (said : List Statement) (rows : List Row) → rows ≡ map (λ p. statement_columns (bare p)) (in_filing number (placed_of agent r))
       → Pairwise (IsKept agent number r.members) 1 said rows ↔ Fit agent number 1 said (statements_kept agent number r)
-  rows_fit said rows are =
-      let same : rows ≡ map (λ p. statement_columns (bare p)) (placed_from agent number 1 (statements_kept agent number r)) = are ∙ ap (map (λ p. statement_columns (bare p))) kept_filed in
-      subst (λ l. Pairwise (IsKept agent number r.members) 1 said l ↔ Fit agent number 1 said (statements_kept agent number r)) (sym same) (rows_fit_all agent number r.members 1 said (statements_kept agent number r) all_alone)
+  rows_fit said rows are = search (rules, kept_filed, rows_fit_all, all_alone)

@@ -1,5 +1,5 @@
 -- The rows that the loops over a statement's lists, and over statements, have added so far.
-use Rattle.std.proofs.Common.{◌≡◌, zero, suc, arith, true, false, true≢false, refl, Option, Some, None, ℤ, ℕ, ◌+◌, ◌<◌, ◌^◌, Result, Ok, Err, IfOk, subst, List, [], ◌∷◌, ◌++◌, map, take, length, get_or, append-nil, sym, ap, ap₂, ◌∙◌, append_assoc, is_some, ◌||◌}
+use Rattle.std.proofs.Common.{◌≡◌, zero, suc, arith, true, false, Option, ℤ, ℕ, ◌+◌, ◌<◌, ◌^◌, Result, IfOk, List, [], ◌∷◌, ◌++◌, map, take, length, get_or, append-nil, sym, ap, ap₂, ◌∙◌, append_assoc, is_some, ◌||◌, rules}
 use Rattle.bods_read.specs.declared.statement.Statement.{Statement}
 use Rattle.bods_read.specs.declared.details.Identifier.{Identifier}
 use Rattle.bods_read.specs.declared.interest.Interest.{Interest}
@@ -16,17 +16,10 @@ one_more_in_turn : {X : Type 0} (change : ℕ → X → Contents → Contents) (
     → change (n + i) x (in_turn change n (take i xs) t) ≡ in_turn change n (take (i + 1) xs) t
 one_more_in_turn change n i [] x lt is t = absurd (omega (arith, lt))
 one_more_in_turn change n zero (y ∷ xs) x lt is t = ap₂ (λ k z. change k z t) (omega arith) is
-one_more_in_turn change n (suc i) (y ∷ xs) x lt is t =
-    let here : n + suc i ≡ (n + 1) + i = omega arith in
-    let next : suc i + 1 ≡ suc (i + 1) = omega arith in
-    ap (λ k. change k x (in_turn change (n + 1) (take i xs) (change n y t))) here
-    ∙ one_more_in_turn change (n + 1) i xs x (omega (arith, lt)) is (change n y t)
-    ∙ sym (ap (λ k. in_turn change n (take k (y ∷ xs)) t) next)
+one_more_in_turn change n (suc i) (y ∷ xs) x lt is t = search (rules, one_more_in_turn change (n + 1) i xs x)
 
 pub next_in_turn : {X : Type 0} (change : ℕ → X → Contents → Contents) (i n : ℕ) (xs : List X) (x : X) → i < length xs → x ≡ get_or xs i x → n ≡ i + 1 → (t : Contents) → change n x (in_turn change 1 (take i xs) t) ≡ in_turn change 1 (take (i + 1) xs) t
-next_in_turn change i n xs x lt is e t =
-    let one : n ≡ 1 + i = omega (arith, e) in
-    ap (λ k. change k x (in_turn change 1 (take i xs) t)) one ∙ one_more_in_turn change 1 i xs x lt is t
+next_in_turn change i n xs x lt is e t = search (rules, one_more_in_turn)
 
 identifiers_in_turn : (at : At) (n : ℕ) (xs : List Identifier) (t : Contents) → in_turn (λ k x. with_identifier_rows (record { at = at; item = k; identifier = x } ∷ [])) n xs t ≡ with_identifier_rows (identifiers_from at n xs) t
 identifiers_in_turn at n [] t = simp append-nil
@@ -45,28 +38,21 @@ placed_in_turn agent filing n (s ∷ ss) t = placed_in_turn agent filing (n + 1)
 pub placed_at_once : (at : At) (s : Statement) (ids : List Identifier) (is : List Interest) → ids ≡ identifiers_listed s.details → is ≡ interests_listed s.details → (t : Contents)
     → in_turn (λ k x. with_interest (record { at = at; item = k; interest = x })) 1 is (in_turn (λ k x. with_identifier_rows (record { at = at; item = k; identifier = x } ∷ [])) 1 ids (with_statement_row (bare (record { at = at; statement = s })) t))
     ≡ with_one_placed (record { at = at; statement = s }) t
-placed_at_once at s ids is same_ids same_is t =
-    interests_in_turn at 1 is _ ∙ ap (λ x. with_period_rows (interests_from at 1 is) (with_interest_rows (interests_from at 1 is) x)) (identifiers_in_turn at 1 ids _)
-    ∙ ap₂ (λ x y. with_period_rows (interests_from at 1 y) (with_interest_rows (interests_from at 1 y) (with_identifier_rows (identifiers_from at 1 x) (with_statement_row (bare (record { at = at; statement = s })) t)))) same_ids same_is
+placed_at_once at s ids is same_ids same_is t = search (rules, interests_in_turn, identifiers_in_turn)
 
 -- a statement whose lists are inserted is counted
 pub counted : {E : Type 0} (s : Statement) (ids : List Identifier) (is : List Interest) (result : Result (Unit {0}) E) → ids ≡ identifiers_listed s.details → is ≡ interests_listed s.details → length ids < 2 ^ 32
     → IfOk result (λ x. length is < 2 ^ 32) → IfOk result (λ x. IsCounted s)
-counted s ids is (Err e) same_ids same_is few_ids few = tt
-counted s ids is (Ok x) same_ids same_is few_ids few = record { interests = subst (λ l. length l < 2 ^ 32) same_is few; identifiers = subst (λ l. length l < 2 ^ 32) same_ids few_ids }
+counted s ids is result same_ids same_is few_ids few = search rules
 
 -- ---- the row of an interest's days
 
 module _ (i : InterestRow) where
   pub said_one : (starts ends : Option ℤ) → (is_some starts || is_some ends) ≡ true → if_said (period_of i) starts ends ≡ period_of i ∷ []
-  said_one None None e = absurd (true≢false (sym e))
-  said_one None (Some end) e = refl
-  said_one (Some start) ends e = refl
+  said_one starts ends e = search rules
 
   pub said_none : (starts ends : Option ℤ) → (is_some starts || is_some ends) ≡ false → if_said (period_of i) starts ends ≡ []
-  said_none None None e = refl
-  said_none None (Some end) e = absurd (true≢false e)
-  said_none (Some start) ends e = absurd (true≢false e)
+  said_none starts ends e = search rules
 
   pub one_said : (is_some i.interest.starts || is_some i.interest.ends) ≡ true → (t : Contents) → with_period_row (period_of i) t ≡ with_period_rows (i ∷ []) t
   one_said e t = ap (λ l. record t { periods = t.periods ++ (map period_columns l ++ []) }) (sym (said_one i.interest.starts i.interest.ends e))

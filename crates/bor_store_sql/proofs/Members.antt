@@ -1,5 +1,5 @@
 -- The rows of the members, and those of one agent.
-use Rattle.std.proofs.Common.{◌≡◌, ℕ, Bool, true, false, List, [], ◌∷◌, ◌++◌, filter, append-nil, true≢false, refl, sym, ap, ap₂, subst, subst₂, ◌∙◌, IsPermutation, append_assoc, if◌then◌else◌, ◌||◌}
+use Rattle.std.proofs.Common.{◌≡◌, ℕ, Bool, true, false, List, [], ◌∷◌, ◌++◌, filter, append-nil, true≢false, refl, sym, ap, ap₂, subst, subst₂, ◌∙◌, IsPermutation, append_assoc, if◌then◌else◌, ◌||◌, rules}
 use Rattle.std.specs.List.{AllByRecursion}
 use Rattle.std.proofs.lemmas.List.Sorted.{IsPermutation-append_comm, IsPermutation-append_right, IsPermutation-cons, IsPermutation-refl}
 use Rattle.std.proofs.lemmas.List.Elements.{filter-append}
@@ -47,10 +47,7 @@ module _ {X : Type 0} (own : List ℕ → List AcceptedFiling → List X) (all :
   module _ (new : Member) (nothing : own new.name new.filings ≡ []) where
     pub with_new_agent : (ms : List Member) → all (with_member new ms) ≡ all ms
     with_new_agent [] = some new [] ∙ ap₂ (λ x y. x ++ y) nothing none ∙ sym none
-    with_new_agent (m ∷ ms) = elim (is_below m.name new.name) as (λ b. all (if b then m ∷ with_member new ms else new ∷ m ∷ ms) ≡ all (m ∷ ms)) [
-      | true ↦ some m (with_member new ms) ∙ ap (λ l. own m.name m.filings ++ l) (with_new_agent ms) ∙ sym (some m ms)
-      | false ↦ some new (m ∷ ms) ∙ ap (λ l. l ++ all (m ∷ ms)) nothing
-    ]
+    with_new_agent (m ∷ ms) = search (rules, with_new_agent ms)
 
   -- a change of the elements that leaves those of other agents
   module _ (change : List X → List X) (nothing : change [] ≡ []) (apart : (xs ys : List X) → change (xs ++ ys) ≡ change xs ++ change ys) (agent : List ℕ)
@@ -61,13 +58,7 @@ module _ {X : Type 0} (own : List ℕ → List AcceptedFiling → List X) (all :
 
     pub own_changed : (new : List AcceptedFiling) (ms : List Member) → IsOrdered ms → change (own agent (filings_of agent ms)) ≡ own agent new → change (all ms) ≡ all (with_filings agent new ms)
     own_changed new [] up is = rw none nothing
-    own_changed new (m ∷ ms) up is = ap change (some m ms) ∙ apart (own m.name m.filings) (all ms) ∙ go (is_same m.name agent) refl is (own_changed new ms up.1)
-      where
-        go : (b : Bool) → is_same m.name agent ≡ b → change (own agent (if b then m.filings else filings_of agent ms)) ≡ own agent new → (change (own agent (filings_of agent ms)) ≡ own agent new → change (all ms) ≡ all (with_filings agent new ms))
-            → change (own m.name m.filings) ++ change (all ms) ≡ all (if b then record m { filings = new } ∷ ms else m ∷ with_filings agent new ms)
-        go true e here more =
-            ap₂ (λ x y. x ++ y) (subst (λ n. change (own n m.filings) ≡ own n new) (sym (same_is m.name agent e)) here) (all_stay ms (apart_names agent m.name ms e up.0)) ∙ sym (some (record m { filings = new }) ms)
-        go false e here more = ap₂ (λ x y. x ++ y) (stay m.name m.filings e) (more here) ∙ sym (some m (with_filings agent new ms))
+    own_changed new (m ∷ ms) up is = search (rules, same_is, all_stay, apart_names, own_changed new ms)
 
   -- those of one agent
   module _ (owner : X → List ℕ) (owned : (name : List ℕ) (fs : List AcceptedFiling) → AllByRecursion (λ x. owner x ≡ name) (own name fs)) (without : (name : List ℕ) → own name [] ≡ []) (agent : List ℕ) where

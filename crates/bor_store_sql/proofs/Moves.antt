@@ -1,7 +1,6 @@
 -- The effects of a transaction, one statement after the other.
-use Rattle.std.proofs.Common.{subst₂, ◌≡◌, ◌⊎◌, inl, inr, ◌<◌, ◌≤◌, ◌+◌, ℕ, List, [], ◌∷◌, ◌++◌, map, take, length, get_or, append_assoc, Ok, Err, IfOk, Result, IsTrue, IsErr, refl, sym, ap, subst, ◌∙◌, arith}
+use Rattle.std.proofs.Common.{◌≡◌, ◌⊎◌, ◌<◌, ◌≤◌, ◌+◌, ℕ, List, [], ◌∷◌, ◌++◌, map, take, length, get_or, append_assoc, Ok, IfOk, Result, IsTrue, IsErr, sym, ap, subst, ◌∙◌, arith, rules}
 use Rattle.std.proofs.lemmas.List.{map-append, take_more}
-use Rattle.std.proofs.lemmas.Result.{IfOk-from_err, on_ok_weaker}
 use Rattle.sqlite.specs.Effect.{Database}
 pub use Rattle.sqlite.specs.Held.{Held, state}
 use Rattle.sqlite.specs.Order.{Row}
@@ -11,7 +10,7 @@ use Rattle.sqlite.specs.State.{State, Executes, HasCleanDisk, IsUnchanged, IsRol
 use Rattle.sqlite.specs.Tree.{Trees}
 use Rattle.bor_store_sql.specs.Changing.{Any}
 use Rattle.bor_store_sql.specs.Moving.{PutsPeriods}
-use Rattle.bor_store_sql.specs.Ran.{LeavesNoMore, Moved, MovesTo, Ran, RanEach, RanInTurn, RunsInside, RanOpenIn}
+use Rattle.bor_store_sql.specs.Ran.{MovesTo, Ran, RanEach, RanInTurn}
 use Rattle.bor_store_sql.specs.Rows.Encoding.{Contents, period_columns}
 use Rattle.bor_store_sql.specs.Shown.{ChangesContents, Has, StepsTo}
 use Rattle.bor_store_sql.specs.declared.rows.typed.PeriodRow.{PeriodRow}
@@ -20,13 +19,6 @@ use Rattle.bor_store_sql.specs.declared.rows.typed.PeriodRow.{PeriodRow}
 
 no_less : (a b : ℕ) → a ≤ b → b ≡ 0 → a ≡ 0
 no_less a b le none = omega arith
-
--- a stop leaves nothing more, where nothing is committed
-pub no_more : (old new : State) → Survives old new (λ _. ⊥) → LeavesNoMore old new
-no_more old new survives clean trees left = elim (survives.crash clean trees left) [
-  | inl before ↦ before
-  | inr none ↦ absurd none
-]
 
 -- a disk that is clean was so before
 pub was_clean : (old new : State) (Commits : Trees → Type 0) → Survives old new Commits → HasCleanDisk new → HasCleanDisk old
@@ -40,18 +32,7 @@ pub record Left (old new : State) : Type 0 where
   pub committed : IsTrue new.is_open → new.committed ≡ old.committed
 
 pub left : (old new : State) → IsUnchanged old new ⊎ IsRolledBack old new → Left old new
-left old new (inl h) = record { was_open = λ up. h.0.was_open; committed = λ up. h.0.committed_is }
-left old new (inr h) = record { was_open = h.was_open; committed = λ up. (h.undone up).1 }
-
-one_move : (Makes : Database → Database → Type 0) (sql : List ℕ) (params : Row) (old new : State) (result : Result (Unit {0}) Error) → RunsInside sql params old new result
-    → ((count : ℕ) → Executes sql params old new (Ok count) → Makes old.now new.now) → Moved Makes old new result
-one_move Makes sql params old new (Ok x) h does = record {
-  was_open = λ up. h.1.1.was_open;
-  committed = λ up. h.1.1.committed_is;
-  goes_on = h.1.1.mode;
-  made = does h.0 h.1.0;
-}
-one_move Makes sql params old new (Err e) h does = record { was_open = (left old new h).was_open; committed = (left old new h).committed; goes_on = tt; made = tt }
+left old new h = search rules
 
 -- a statement that goes well makes this of the database
 abbrev pub Making : List ℕ → Row → (Database → Database → Type 0) → Type 1
@@ -59,55 +40,26 @@ Making sql params Makes = (old new : State) (count : ℕ) → Executes sql param
 
 -- what a statement makes that is given what it is said to be given
 pub moves_by : {Makes : Database → Database → Type 0} {sql : List ℕ} {given params : Row} {old new : State} {result : Result (Unit {0}) Error} → Ran sql given old new result → given ≡ params → Making sql params Makes → MovesTo Makes old new result
-moves_by {Makes} {sql} {old = old} {new} {result} ran is does = record {
-  clean = ran.clean;
-  stops = ran.stops;
-  inside = λ clean inside. one_move Makes sql _ old new result (subst (λ row. RunsInside sql row old new result) is (ran.inside clean inside)) (does old new);
-}
+moves_by {Makes} {sql} {old = old} {new} {result} ran is does = search rules
 
 -- ---- one after the other
 
 -- one that went well, and another, which may fail
 pub both_move : (First Then All : Database → Database → Type 0) (old mid new : State) (result : Result (Unit {0}) Error) → (First old.now mid.now → Then mid.now new.now → All old.now new.now)
     → MovesTo First old mid (Ok (tt {0})) → MovesTo Then mid new result → MovesTo All old new result
-both_move First Then All old mid new result chain one two = record {
-  clean = λ clean. one.clean (two.clean clean);
-  stops = λ clean trees left. one.stops (two.clean clean) trees (two.stops clean trees left);
-  inside = λ clean inside.
-      let first = one.inside (two.clean clean) inside in
-      let second = two.inside clean first.goes_on in
-      record {
-        was_open = λ up. first.was_open (second.was_open up);
-        committed = λ up. second.committed up ∙ first.committed (second.was_open up);
-        goes_on = second.goes_on;
-        made = on_ok_weaker result (chain first.made) second.made;
-      };
-}
+both_move First Then All old mid new result chain one two = search rules
 
 -- a failure makes nothing, whatever was to be made
 pub fails : {Then All : Database → Database → Type 0} {old new : State} {done result : Result (Unit {0}) Error} → IsErr result → MovesTo Then old new done → MovesTo All old new result
-fails {All = All} {old} {new} {result = result} err one = record {
-  clean = one.clean;
-  stops = one.stops;
-  inside = λ clean inside.
-      let moved = one.inside clean inside in
-      record { was_open = moved.was_open; committed = moved.committed; goes_on = IfOk-from_err result _ err; made = IfOk-from_err result _ err };
-}
+fails {All = All} {old} {new} {result = result} err one = search rules
 
 -- what was made, in other words
 pub in_other_words : (Makes All : Database → Database → Type 0) (old new : State) (result : Result (Unit {0}) Error) → (Makes old.now new.now → All old.now new.now) → MovesTo Makes old new result → MovesTo All old new result
-in_other_words Makes All old new result turn one = record {
-  clean = one.clean;
-  stops = one.stops;
-  inside = λ clean inside.
-      let moved = one.inside clean inside in
-      record { was_open = moved.was_open; committed = moved.committed; goes_on = moved.goes_on; made = on_ok_weaker result turn moved.made };
-}
+in_other_words Makes All old new result turn one = search rules
 
 -- what is known of all that went well
 pub with_known : (P : Type 0) (Makes : Database → Database → Type 0) (old new : State) (result : Result (Unit {0}) Error) → IfOk result (λ x. P) → MovesTo Makes old new result → MovesTo (λ was is. Makes was is × P) old new result
-with_known P Makes old new (Ok x) known one = in_other_words Makes (λ was is. Makes was is × P) old new (Ok x) (λ made. (made, known)) one
-with_known P Makes old new (Err e) known one = fails {Then = Makes} refl one
+with_known P Makes old new result known one = search (rules, in_other_words, fails)
 
 -- ---- texts, one after the other
 
@@ -121,48 +73,17 @@ each_moves {S} {g} {texts} {old = old} {new} {result} ran is each = each.makes S
 
 -- the last one
 pub at_last : {text : List ℕ} {params : Row} {Makes : Database → Database → Type 0} → Making text params Makes → MakingEach (text ∷ []) params Makes
-at_last {text} {params} {Makes} making = record { makes = go }
-  where
-    go : (S : Type 0) (g : Ghosts S) (old new : Held S) (result : Result (Unit {0}) Error) → RanInTurn g (text ∷ []) params old new result → MovesTo Makes (state g old) (state g new) result
-    go S g old new result (inl (mid, ran, done)) = subst₂ (λ h r. MovesTo Makes (state g old) (state g h) r) done.0 done.1 (moves_by ran refl making)
-    go S g old new result (inr (e, ran, err)) = fails err (moves_by ran refl making)
+at_last {text} {params} {Makes} making = search rules
 
 -- one, and then others
 pub and_then : {text : List ℕ} {texts : List (List ℕ)} {params : Row} {First Then All : Database → Database → Type 0} → ((old mid new : Database) → First old mid → Then mid new → All old new) → Making text params First → MakingEach texts params Then
     → MakingEach (text ∷ texts) params All
-and_then {text} {texts} {params} {First} {Then} {All} joined making rest = record { makes = go }
-  where
-    go : (S : Type 0) (g : Ghosts S) (old new : Held S) (result : Result (Unit {0}) Error) → RanInTurn g (text ∷ texts) params old new result → MovesTo All (state g old) (state g new) result
-    go S g old new result (inl (mid, ran, more)) =
-        both_move First Then All (state g old) (state g mid) (state g new) result (joined (state g old).now (state g mid).now (state g new).now) (moves_by ran refl making) (rest.makes S g mid new result more)
-    go S g old new result (inr (e, ran, err)) = fails err (moves_by ran refl making)
+and_then {text} {texts} {params} {First} {Then} {All} joined making rest = search rules
 
 -- the same of changes of rows
 pub then_change : {text : List ℕ} {texts : List (List ℕ)} {params : Row} {fits : Contents → Type 0} {f h : Contents → Contents} → Making text params (ChangesContents fits f) → MakingEach texts params (ChangesContents Any h)
     → MakingEach (text ∷ texts) params (ChangesContents fits (λ t. h (f t)))
 then_change {f = f} making rest = and_then (λ old mid new to_f to_h t has fit. to_h (f t) (to_f t has fit) (tt {0})) making rest
-
-each_clean : {S : Type 0} (g : Ghosts S) (texts : List (List ℕ)) (params : Row) (old new : Held S) (result : Result (Unit {0}) Error) → RanInTurn g texts params old new result → HasCleanDisk (state g new) → HasCleanDisk (state g old)
-each_clean g [] params old new result done clean = subst (λ h. HasCleanDisk (state g h)) (sym done.0) clean
-each_clean g (text ∷ texts) params old new result (inl (mid, ran, more)) clean = ran.clean (each_clean g texts params mid new result more clean)
-each_clean g (text ∷ texts) params old new result (inr (e, ran, err)) clean = ran.clean clean
-
--- ---- on a connection that was open
-
-pub err_open : (old new : State) (result : Result (Unit {0}) Error) → IsErr result → RanOpenIn old new result
-err_open old new result err clean inside = IfOk-from_err result _ err
-
--- the first went well
-pub first_open : (old mid new : State) (result : Result (Unit {0}) Error) → RanOpenIn old mid (Ok (tt {0})) → (HasCleanDisk new → HasCleanDisk mid) → RanOpenIn old new result
-first_open old mid new (Ok x) first sound clean inside = first (sound clean) inside
-first_open old mid new (Err e) first sound clean inside = tt
-
-pub each_open : {S : Type 0} {g : Ghosts S} {text : List ℕ} {texts : List (List ℕ)} {params : Row} {old new : Held S} {result : Result (Unit {0}) Error} → RanEach g (text ∷ texts) params old new result → RanOpenIn (state g old) (state g new) result
-each_open {S} {g} {text} {texts} {params} {old} {new} {result} ran = go ran.in_turn
-  where
-    go : RanInTurn g (text ∷ texts) params old new result → RanOpenIn (state g old) (state g new) result
-    go (inl (mid, ran, more)) = first_open (state g old) (state g mid) (state g new) result ran.opened (each_clean g texts params mid new result more)
-    go (inr (e, ran, err)) = err_open (state g old) (state g new) result err
 
 -- ---- changes of rows
 

@@ -1,10 +1,9 @@
 -- Tables of version 1 tell all of a register but the days of its interests.
-use Rattle.std.proofs.Common.{◌≡◌, ℕ, List, [], ◌∷◌, ◌++◌, map, refl, sym, ap, ap₂, subst, ◌∙◌, ◌+◌, flat_map}
+use Rattle.std.proofs.Common.{◌≡◌, ℕ, List, [], ◌∷◌, ◌++◌, map, refl, sym, ap, ap₂, subst, ◌∙◌, ◌+◌, flat_map, rules}
 use Rattle.std.proofs.lemmas.List.{map-append}
 use Rattle.std.proofs.lemmas.List.Concat.{flat_map-append}
 use Rattle.sqlite.specs.Effect.{Database}
 use Rattle.bods_read.specs.declared.details.Details.{Details}
-use Rattle.bods_read.specs.declared.details.Details.TheVariants as details
 use Rattle.bods_read.specs.declared.interest.Interest.{Interest}
 use Rattle.bods_read.specs.declared.statement.Statement.{Statement}
 use Rattle.bor_register.specs.Register.{AllAbove, IsOrdered, Register}
@@ -12,7 +11,7 @@ use Rattle.bor_register.specs.declared.filing.AcceptedFiling.{AcceptedFiling}
 use Rattle.bor_register.specs.declared.member.Member.{Member}
 use Rattle.bor_store_sql.specs.Laws.{FirstTablesTellAllButDays}
 use Rattle.bor_store_sql.specs.Rows.Encoding.{agent_columns, contents, filing_columns, filing_rows, first_version, identifier_columns, interest_columns, statement_columns}
-use Rattle.bor_store_sql.specs.Rows.Placed.{bare, identifier_rows, identifiers_from, identifiers_listed, interest_rows, interests_from, interests_listed, part_of, period_rows, placed, placed_by, placed_from, register_row}
+use Rattle.bor_store_sql.specs.Rows.Placed.{bare, identifier_rows, identifiers_listed, interest_rows, interests_from, interests_listed, period_rows, placed, placed_by, placed_from, register_row}
 use Rattle.bor_store_sql.specs.Rows.Stored.{AllNumbered, AreNumbered}
 use Rattle.bor_store_sql.specs.Shown.{HasFirst, HasLists, first_contents}
 use Rattle.bor_store_sql.specs.Undated.{undated, undated_details, undated_filing, undated_member, undated_statement, without_days}
@@ -63,22 +62,13 @@ placed_undated [] = refl
 placed_undated (m ∷ ms) = ap₂ (λ x y. x ++ y) (placed_by_undated m.name m.filings) (placed_undated ms) ∙ sym (map-append undated_placed (placed_by m.name m.filings) (placed ms))
 
 bare_undated : (p : Placed) → bare (undated_placed p) ≡ bare p
-bare_undated p = ap (λ part. record (bare p) { part = part }) (go p.statement.details)
-  where
-    go : (d : Details) → part_of (undated_details d) ≡ part_of d
-    go (details.Entity kind name identifiers) = refl
-    go (details.Person kind name) = refl
-    go (details.Relationship subject party interests) = refl
+bare_undated p = search rules
 
 identified_undated : (d : Details) → identifiers_listed (undated_details d) ≡ identifiers_listed d
-identified_undated (details.Entity kind name identifiers) = refl
-identified_undated (details.Person kind name) = refl
-identified_undated (details.Relationship subject party interests) = refl
+identified_undated d = search rules
 
 held_undated : (d : Details) → interests_listed (undated_details d) ≡ map undated (interests_listed d)
-held_undated (details.Entity kind name identifiers) = refl
-held_undated (details.Person kind name) = refl
-held_undated (details.Relationship subject party interests) = refl
+held_undated d = search rules
 
 -- ---- the rows of the tables
 
@@ -90,42 +80,20 @@ filings_undated [] = refl
 filings_undated (m ∷ ms) = ap₂ (λ x y. x ++ y) (map-map (filing_columns m.name) undated_filing m.filings) (filings_undated ms)
 
 statements_undated : (ps : List Placed) → map (λ p. statement_columns (bare p)) (map undated_placed ps) ≡ map (λ p. statement_columns (bare p)) ps
-statements_undated ps =
-    map-map (λ p. statement_columns (bare p)) undated_placed ps
-    ∙ map_same (λ p. statement_columns (bare (undated_placed p))) (λ p. statement_columns (bare p)) (λ p. ap statement_columns (bare_undated p)) ps
+statements_undated ps = search (rules, map-map, map_same, bare_undated)
 
 held_from : (at : At) (item : ℕ) (is : List Interest) → map interest_columns (interests_from at item (map undated is)) ≡ map interest_columns (interests_from at item is)
 held_from at item [] = refl
 held_from at item (i ∷ is) = ap (λ l. interest_columns (record { at = at; item = item; interest = i }) ∷ l) (held_from at (item + 1) is)
 
 interests_undated : (ps : List Placed) → flat_map (λ p. map interest_columns (interest_rows p)) (map undated_placed ps) ≡ flat_map (λ p. map interest_columns (interest_rows p)) ps
-interests_undated ps =
-    flat_map-map (λ p. map interest_columns (interest_rows p)) undated_placed ps
-    ∙ flat_map_same_on (λ p. map interest_columns (interest_rows (undated_placed p))) (λ p. map interest_columns (interest_rows p))
-    (λ p. ap (λ is. map interest_columns (interests_from p.at 1 is)) (held_undated p.statement.details) ∙ held_from p.at 1 (interests_listed p.statement.details)) ps
+interests_undated ps = search (rules, flat_map-map, flat_map_same_on, held_undated, held_from)
 
 identifiers_undated : (ps : List Placed) → flat_map (λ p. map identifier_columns (identifier_rows p)) (map undated_placed ps) ≡ flat_map (λ p. map identifier_columns (identifier_rows p)) ps
-identifiers_undated ps =
-    flat_map-map (λ p. map identifier_columns (identifier_rows p)) undated_placed ps
-    ∙ flat_map_same_on (λ p. map identifier_columns (identifier_rows (undated_placed p))) (λ p. map identifier_columns (identifier_rows p))
-    (λ p. ap (λ is. map identifier_columns (identifiers_from p.at 1 is)) (identified_undated p.statement.details)) ps
+identifiers_undated ps = search (rules, flat_map-map, flat_map_same_on, identified_undated)
 
 first_undated : (r : Register) → first_contents (without_days r) ≡ first_contents r
-first_undated r =
-    let ps = placed_undated r.members in
-    let all = placed r.members in
-    let statements = ap (map (λ p. statement_columns (bare p))) ps ∙ statements_undated all in
-    let interests = ap (flat_map (λ p. map interest_columns (interest_rows p))) ps ∙ interests_undated all in
-    let identifiers = ap (flat_map (λ p. map identifier_columns (identifier_rows p))) ps ∙ identifiers_undated all in
-    λ k. record {
-      register = (first_contents r).register;
-      agents = agents_undated r.members k;
-      filings = filings_undated r.members k;
-      statements = statements k;
-      interests = interests k;
-      periods = [];
-      identifiers = identifiers k;
-    }
+first_undated r = search (rules, placed_undated, statements_undated, interests_undated, identifiers_undated, agents_undated, filings_undated)
 
 -- ---- no days
 
@@ -135,9 +103,7 @@ no_days_from at item (i ∷ is) = no_days_from at (item + 1) is
 
 no_days_of : (ps : List Placed) → flat_map period_rows (flat_map interest_rows (map undated_placed ps)) ≡ []
 no_days_of [] = refl
-no_days_of (p ∷ ps) =
-    let own = ap (λ is. flat_map period_rows (interests_from p.at 1 is)) (held_undated p.statement.details) ∙ no_days_from p.at 1 (interests_listed p.statement.details) in
-    flat_map-append period_rows (interest_rows (undated_placed p)) (flat_map interest_rows (map undated_placed ps)) ∙ ap₂ (λ x y. x ++ y) own (no_days_of ps)
+no_days_of (p ∷ ps) = search (rules, held_undated, no_days_from, flat_map-append, no_days_of ps)
 
 no_days : (r : Register) → flat_map period_rows (all_interests (without_days r).members) ≡ []
 no_days r = ap (λ ps. flat_map period_rows (flat_map interest_rows ps)) (placed_undated r.members) ∙ no_days_of (placed r.members)

@@ -1,5 +1,5 @@
 -- The rows of a database are those of one register at most.
-use Rattle.std.proofs.Common.{◌≡◌, ℕ, ℤ, zero, suc, pos, ◌+◌, List, [], ◌∷◌, ◌++◌, map, filter, refl, sym, ap, ap₂, subst, ◌∙◌, arith, IsPermutation, IsSorted, flat_map}
+use Rattle.std.proofs.Common.{◌≡◌, ℕ, ℤ, zero, suc, pos, ◌+◌, List, [], ◌∷◌, map, refl, sym, ap, ap₂, subst, ◌∙◌, arith, IsPermutation, IsSorted, flat_map, rules}
 use Rattle.std.specs.Ordering.{is_lt, ordering_reverse}
 use Rattle.std.proofs.lemmas.List.{map-append}
 use Rattle.std.proofs.lemmas.List.Sorted.{IsPermutation-trans, IsPermutation-sym}
@@ -8,7 +8,7 @@ use Rattle.sqlite.specs.Order.{Row}
 use Rattle.sqlite.specs.State.{State}
 use Rattle.sqlite.specs.Tree.{IsAscending}
 use Rattle.sqlite.specs.declared.types.Value.TheVariants.{Int}
-use Rattle.sqlite_keyed.proofs.ListLemmas.{ascending-filter, ascending-map, map-flat_map, map-map, map_same}
+use Rattle.sqlite_keyed.proofs.ListLemmas.{ascending-filter, ascending-map, map-flat_map, map-map}
 use Rattle.sqlite_keyed.proofs.SortLemmas.{sorted_unique}
 use Rattle.sqlite_sql.proofs.QueryLemmas.{key_cmp_total}
 use Rattle.sqlite_sql.specs.Query.{key_cmp}
@@ -16,17 +16,17 @@ use Rattle.sqlite_value.specs.declared.keys.Key.{Key}
 use Rattle.bor_register.specs.Register.{IsOrdered, Register}
 use Rattle.bor_register.specs.declared.member.Member.{Member}
 use Rattle.bor_store_sql.specs.Kept.{AreRows, Keeps}
-use Rattle.bor_store_sql.specs.Rows.Encoding.{agent_columns, contents, filing_columns, filing_rows, identifier_columns, interest_columns, interest_line_columns, period_columns, statement_columns, tables_version, versioned_columns}
+use Rattle.bor_store_sql.specs.Rows.Encoding.{agent_columns, contents, filing_rows, identifier_columns, interest_columns, interest_line_columns, period_columns, statement_columns, tables_version, versioned_columns}
 use Rattle.bor_store_sql.specs.Rows.Placed.{agent_row, bare, identifier_rows, interest_rows, interest_line, period_rows, placed, register_row}
 use Rattle.bor_store_sql.specs.Rows.Stored.{AllNumbered, IsStored}
 use Rattle.bor_store_sql.specs.Shown.{Has, HasLists, ShowsIn}
 use Rattle.bor_store_sql.specs.declared.rows.typed.RegisterRow.{RegisterRow}
 use Rattle.bor_store_sql.proofs.OnRows.Apart.{all_apart}
-use Rattle.bor_store_sql.proofs.OnRows.Decoded.{agent_in, filed, filing_back, filing_in, identifier_back, identifier_in, line_back, line_in, period_back, period_in, register_in, same_values, statement_back, statement_in}
+use Rattle.bor_store_sql.proofs.OnRows.Decoded.{agent_in, filing_back, filing_in, identifier_back, identifier_in, line_back, line_in, period_back, period_in, register_in, same_values, statement_back, statement_in}
 use Rattle.bor_store_sql.proofs.OnRows.Once.{all_filed, same_joined, same_members, same_timed}
 use Rattle.bor_store_sql.proofs.OnRows.Timings.{all_several}
-use Rattle.bor_store_sql.proofs.Orders.{IsInterestBefore, IsLower, agents_rise, filing_rows_are, identifier_rows_rise, interest_rows_rise, owned, owned_rise, placed_rise, up, whole}
-use Rattle.bor_store_sql.proofs.Selecting.{all_interests, day_columns, is_said, listed, table_is}
+use Rattle.bor_store_sql.proofs.Orders.{IsLower, agents_rise, filing_rows_are, identifier_rows_rise, interest_rows_rise, owned, owned_rise, placed_rise, up, whole}
+use Rattle.bor_store_sql.proofs.Selecting.{all_interests, listed, table_is}
 use Rattle.bor_store_sql.proofs.Finding.{lists_of}
 
 -- ---- the rows of one table
@@ -47,9 +47,7 @@ sorted_so : (keys : List Key) (xs : List Row) → IsAscending (IsLower keys) xs 
 sorted_so keys [] rise k d a b = absurd (omega (arith, b))
 sorted_so keys (x ∷ []) rise k d a b = absurd (omega (arith, b))
 sorted_so keys (x ∷ y ∷ xs) rise zero d a b = ap is_lt ((key_cmp_total keys 0).antisymm y x ∙ ap ordering_reverse rise.0.0)
-sorted_so keys (x ∷ y ∷ xs) rise (suc k) d a b =
-    let e : suc k + 1 ≡ suc (k + 1) = omega arith in
-    rw e (sorted_so keys (y ∷ xs) rise.1 k d (omega arith) (omega (arith, b)))
+sorted_so keys (x ∷ y ∷ xs) rise (suc k) d a b = search (rules, sorted_so keys (y ∷ xs))
 
 -- a table has one list of rows that rise
 same_rows : (keys : List Key) (xs ys rows : List Row) → IsAscending (IsLower keys) xs → IsAscending (IsLower keys) ys → Keeps xs rows → Keeps ys rows → xs ≡ ys
@@ -61,9 +59,7 @@ same_rows keys xs ys rows rise rise_too a b =
 
 filed_are : (ms : List Member) → map filing_in (filing_rows ms) ≡ all_filed ms
 filed_are [] = refl
-filed_are (m ∷ ms) =
-    map-append filing_in (map (filing_columns m.name) m.filings) (filing_rows ms)
-    ∙ ap₂ (λ x l. x ++ l) (map-map filing_in (filing_columns m.name) m.filings ∙ map_same (λ f. filing_in (filing_columns m.name f)) (filed m.name) (filing_back m.name) m.filings) (filed_are ms)
+filed_are (m ∷ ms) = search (rules, map-append, map-map, filing_back, filed_are ms)
 
 -- the row of the register in a version
 pub one_row : (version : ℤ) (a b : RegisterRow) (rows : List Row) → Keeps (versioned_columns version a ∷ []) rows → Keeps (versioned_columns version b ∷ []) rows → a ≡ b
@@ -127,11 +123,7 @@ module _ (r q : Register) (db : Database) (rise : AreUp r) (rise_too : AreUp q) 
 
   -- where the days of interests are the same too, so are the members
   pub one_list : flat_map period_rows (all_interests r.members) ≡ flat_map period_rows (all_interests q.members) → r.members ≡ q.members
-  one_list periods =
-      let apart = all_apart r.members rise.0 rise.1 in
-      let apart_too = all_apart q.members rise_too.0 rise_too.1 in
-      let interests = same_timed (all_interests r.members) (all_interests q.members) (all_several (placed r.members) apart) (all_several (placed q.members) apart_too) lines periods in
-      same_members r.members q.members rise.0 rise_too.0 rise.1 rise_too.1 agents filings (same_joined (placed r.members) (placed q.members) apart apart_too statements interests identifiers)
+  one_list periods = search (rules, all_apart, same_timed, all_several, lines, same_members, agents, filings, same_joined, statements, identifiers)
 
 -- ---- version 2
 
@@ -146,9 +138,7 @@ module _ (r q : Register) (db : Database) (stored : IsStored r) (stored_too : Is
   registers = one_row tables_version (register_row r) (register_row q) (db.trees 0) has.register has_too.register
 
   periods_up : (s : Register) → AreUp s → IsAscending (IsLower (up ∷ up ∷ up ∷ up ∷ [])) (contents s).periods
-  periods_up s is =
-      subst (IsAscending (IsLower (up ∷ up ∷ up ∷ up ∷ []))) (sym (table_is s.members))
-      (ascending-map (IsLower (up ∷ up ∷ up ∷ up ∷ [])) day_columns (filter is_said (all_interests s.members)) (ascending-filter IsInterestBefore is_said (all_interests s.members) (interest_rows_rise s.members is.0 is.1)))
+  periods_up s is = search (rules, table_is, ascending-map, all_interests, ascending-filter, interest_rows_rise)
 
   periods : flat_map period_rows (all_interests r.members) ≡ flat_map period_rows (all_interests q.members)
   periods =

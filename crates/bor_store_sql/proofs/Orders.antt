@@ -1,5 +1,5 @@
 -- The rows of a register rise by the primary key of each table, and those of one agent and of one statement are together.
-use Rattle.std.proofs.Common.{◌≡◌, ℕ, ◌+◌, ◌<◌, true, List, [], ◌∷◌, ◌++◌, map, refl, sym, ap, subst, ◌∙◌, arith, ℤ, pos, ap₂, Less, Equal, Greater, Bool, false, ◌&&◌, ◌==◌, filter, inl, inr}
+use Rattle.std.proofs.Common.{◌≡◌, ℕ, ◌+◌, ◌<◌, true, List, [], ◌∷◌, ◌++◌, map, refl, sym, ap, subst, ◌∙◌, arith, ℤ, pos, ap₂, Less, Equal, Bool, false, ◌&&◌, ◌==◌, filter, inl, inr, rules}
 use Rattle.std.specs.List.{AllByRecursion, flat_map}
 use Rattle.sqlite.specs.Tree.{IsAscending}
 use Rattle.sqlite_keyed.proofs.ListLemmas.{all-append, all_weaker, all_both, all_of, ascending-append, all-map, map-map, all-flat_map, flat_map_same_on, map-flat_map, filter-map, filter_all, filter_none}
@@ -49,17 +49,11 @@ module _ {X : Type 0} (R : X → X → Type 0) (own : List ℕ → List Accepted
     (own_rise : (name : List ℕ) (fs : List AcceptedFiling) → AreNumbered 1 fs → IsAscending R (own name fs)) where
   above : (name : List ℕ) (ms : List Member) → AllAbove name ms → AllByRecursion (λ y. is_below name (owner y) ≡ true) (all ms)
   above name [] up = subst (AllByRecursion (λ y. is_below name (owner y) ≡ true)) (sym none) tt
-  above name (m ∷ ms) up =
-      subst (AllByRecursion (λ y. is_below name (owner y) ≡ true)) (sym (some m ms))
-      (all-append _ (own m.name m.filings) (all ms) (all_weaker (λ x. owner x ≡ m.name) (λ y. is_below name (owner y) ≡ true) (λ x same. ap (is_below name) same ∙ up.0) (own m.name m.filings) (owned m.name m.filings)) (above name ms up.1))
+  above name (m ∷ ms) up = search (rules, all-append, all_weaker, above name ms)
 
   pub members_rise : (ms : List Member) → IsOrdered ms → AllNumbered ms → IsAscending R (all ms)
   members_rise [] up numbers = subst (IsAscending R) (sym none) tt
-  members_rise (m ∷ ms) up numbers =
-      subst (IsAscending R) (sym (some m ms))
-      (ascending-append R (own m.name m.filings) (all ms) (own_rise m.name m.filings numbers.0) (members_rise ms up.1 numbers.1)
-      (all_weaker (λ x. owner x ≡ m.name) (λ x. AllByRecursion (R x) (all ms))
-      (λ x same. all_weaker (λ y. is_below m.name (owner y) ≡ true) (R x) (λ y lt. by_name x y (ap (λ n. is_below n (owner y)) same ∙ lt)) (all ms) (above m.name ms up.0)) (own m.name m.filings) (owned m.name m.filings)))
+  members_rise (m ∷ ms) up numbers = search (rules, ascending-append, all_weaker, above, members_rise ms)
 
 -- lists that each rise, of elements that rise
 module _ {A X : Type 0} (P : A → A → Type 0) (R : X → X → Type 0) (rows : A → List X) (within : (a : A) → IsAscending R (rows a)) (across : (a b : A) → P a b → AllByRecursion (λ x. AllByRecursion (R x) (rows b)) (rows a)) where
@@ -106,9 +100,7 @@ owned_by name fs = each_own (λ p. p.at.agent ≡ name) name fs (λ filing place
 -- ---- the rows of each table rise by its primary key
 
 less_is : (o : Ordering) → is_lt o ≡ true → o ≡ Less
-less_is Less e = refl
-less_is Equal e = absurd cc
-less_is Greater e = absurd cc
+less_is o e = search rules
 
 text_less : (a b : List ℕ) → is_below a b ≡ true → value_cmp (Text a) (Text b) ≡ Less
 text_less a b lt = value_cmp-Text a b ∙ less_is (slice_cmp nat_cmp a b) lt
@@ -201,13 +193,7 @@ placed_rise =
 
 -- what is below by three columns is so by four
 longer : (a b c d : Ordering) → ordering_then a (ordering_then b (ordering_then c Equal)) ≡ Less → ordering_then a (ordering_then b (ordering_then c (ordering_then d Equal))) ≡ Less
-longer Less b c d h = refl
-longer Greater b c d h = h
-longer Equal Less c d h = refl
-longer Equal Greater c d h = h
-longer Equal Equal Less d h = refl
-longer Equal Equal Greater d h = h
-longer Equal Equal Equal d h = absurd cc
+longer a b c d h = search rules
 
 abbrev pub item_keys : At → ℕ → Row
 item_keys at item = Text at.agent ∷ Int (pos at.filing) ∷ Int (pos at.place) ∷ Int (pos item) ∷ []
@@ -216,8 +202,7 @@ abbrev IsLowerItem : At → ℕ → At → ℕ → Type 0
 IsLowerItem a m b n = IsLower (up ∷ up ∷ up ∷ up ∷ []) (item_keys a m) (item_keys b n)
 
 at_lower_place : (a b : At) (m n : ℕ) → IsLowerPlace a b → IsLowerItem a m b n
-at_lower_place a b m n lt =
-    longer (value_cmp (Text a.agent) (Text b.agent)) (value_cmp (Int (pos a.filing)) (Int (pos b.filing))) (value_cmp (Int (pos a.place)) (Int (pos b.place))) (value_cmp (Int (pos m)) (Int (pos n))) lt
+at_lower_place a b m n lt = search (rules, longer)
 
 at_same_place : (at : At) (m n : ℕ) → m < n → IsLowerItem at m at n
 at_same_place at m n lt = rw (text_same at.agent, int_same (pos at.filing), int_same (pos at.place), lower_id m n lt) refl
@@ -275,9 +260,7 @@ lines_of name fs = map-map (λ (o : Owned). line_columns (filing_row o.agent o.f
 
 pub lines_are : (ms : List Member) → map (λ (o : Owned). line_columns (filing_row o.agent o.filing)) (owned ms) ≡ map line_columns (filing_lines ms)
 lines_are [] = refl
-lines_are (m ∷ ms) =
-    map-append (λ (o : Owned). line_columns (filing_row o.agent o.filing)) (map (owned_filing m.name) m.filings) (owned ms) ∙ ap₂ (λ x y. x ++ y) (lines_of m.name m.filings) (lines_are ms)
-    ∙ sym (map-append line_columns (map (filing_row m.name) m.filings) (filing_lines ms))
+lines_are (m ∷ ms) = search (rules, map-append, lines_of, lines_are ms)
 
 -- ---- those of one statement
 
@@ -286,13 +269,7 @@ place_params at = Text at.agent ∷ Int (pos at.filing) ∷ Int (pos at.place) �
 
 -- the first three columns are those of the place
 pub place_test : (a b : At) → (are_equal (Text a.agent) (Text b.agent) && (are_equal (Int (pos a.filing)) (Int (pos b.filing)) && (are_equal (Int (pos a.place)) (Int (pos b.place)) && true))) ≡ same_place a b
-place_test a b =
-    ap₂ (λ x y. x && y) (text_test a.agent b.agent) (ap₂ (λ x y. x && y) (int_test (pos a.filing) (pos b.filing) ∙ number_test a.filing b.filing) (and-true _ ∙ int_test (pos a.place) (pos b.place) ∙ number_test a.place b.place))
-    ∙ turned (is_same a.agent b.agent) (a.filing == b.filing) (a.place == b.place)
-  where
-    turned : (x y z : Bool) → x && (y && z) ≡ y && (z && x)
-    turned true y z = ap (λ b. y && b) (sym (and-true z))
-    turned false y z = sym (ap (λ b. y && b) (and-false z) ∙ and-false y)
+place_test a b = search (rules, text_test, int_test, number_test, and-true, and-false)
 
 module _ {X : Type 0} (at_of : X → At) (t : At → Bool) (rows : Placed → List X) (own : (p : Placed) → AllByRecursion (λ x. at_of x ≡ p.at) (rows p)) where
   passed : (p : Placed) (b : Bool) → t p.at ≡ b → AllByRecursion (λ x. t (at_of x) ≡ b) (rows p)
@@ -317,14 +294,10 @@ abbrev pub periods_of : Placed → List PeriodRow
 periods_of p = flat_map period_rows (interest_rows p)
 
 pub periods_are : (ps : List Placed) → map period_columns (flat_map periods_of ps) ≡ flat_map (λ p. flat_map days_of (interest_rows p)) ps
-periods_are ps =
-    map-flat_map period_columns periods_of ps
-    ∙ flat_map_same_on (λ p. map period_columns (periods_of p)) (λ p. flat_map days_of (interest_rows p)) (λ p. map-flat_map period_columns period_rows (interest_rows p)) ps
+periods_are ps = search (rules, map-flat_map, flat_map_same_on)
 
 period_stands : (i : InterestRow) → AllByRecursion (λ (q : PeriodRow). q.at ≡ i.at) (period_rows i)
 period_stands i = all_said (λ (q : PeriodRow). q.at ≡ i.at) (period_of i) refl i.interest.starts i.interest.ends
 
 pub periods_stand : (at : At) (is : List InterestRow) → AllByRecursion (λ (i : InterestRow). i.at ≡ at) is → AllByRecursion (λ (q : PeriodRow). q.at ≡ at) (flat_map period_rows is)
-periods_stand at is own =
-    all-flat_map (λ (q : PeriodRow). q.at ≡ at) period_rows is
-    (all_weaker (λ (i : InterestRow). i.at ≡ at) (λ i. AllByRecursion (λ (q : PeriodRow). q.at ≡ at) (period_rows i)) (λ i same. rw (← same) (period_stands i)) is own)
+periods_stand at is own = search (rules, all-flat_map, all_weaker, period_stands)

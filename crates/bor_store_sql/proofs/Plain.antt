@@ -1,12 +1,12 @@
 -- What texts mean, whatever the schema: a SELECT returns no rows of a write, and those that make the tables do this.
-use Rattle.std.proofs.Common.{◌≡◌, ℕ, Bool, true, false, cond, List, None, Option, Ok, Err, Result, true≢false, sym, refl, not, length, ◌==◌, ◌&&◌, ◌⊎◌, inl, inr, ◌+◌, [], slice_range, Some, slice_get, is_some, ap, subst, ◌∙◌}
-use Rattle.sqlite.specs.Listing.{understood, listing_schema, if_select, misses_table, is_select}
+use Rattle.std.proofs.Common.{◌≡◌, ℕ, Bool, true, false, cond, List, None, Option, Ok, Err, Result, true≢false, sym, refl, ◌⊎◌, inl, inr, ◌+◌, [], slice_range, Some, slice_get, ap, subst, ◌∙◌, rules}
+use Rattle.sqlite.specs.Listing.{understood, listing_schema, if_select, is_select}
 use Rattle.sqlite.specs.Schema.{Schema}
 use Rattle.sqlite.specs.Command.{Command}
 use Rattle.sqlite_resolve.specs.declared.compiled.Compiled.{Compiled}
 use Rattle.sqlite_resolve.specs.declared.error.CompileError.{CompileError}
-use Rattle.sqlite_resolve.specs.declared.error.CompileError.TheVariants.{NoSuchTable, Misuse, Exists, Unsupported}
-use Rattle.sqlite_resolve.specs.Compile.{compiled, planned, meaning, returning, first, with_command, command, timed, create_table, create_index, creates, is_reserved, is_attached, insert, insert_or_abort, new_rows, shows, small, formats_of}
+use Rattle.sqlite_resolve.specs.declared.error.CompileError.TheVariants.{Misuse, Exists}
+use Rattle.sqlite_resolve.specs.Compile.{compiled, planned, meaning, returning, first, with_command, command, timed, create_table, create_index, creates, insert, insert_or_abort, new_rows, shows, small, formats_of}
 use Rattle.sqlite_ast.specs.declared.Select.{Select}
 use Rattle.sqlite_ast.specs.declared.Statement.{Statement}
 use Rattle.sqlite_ast.specs.declared.Statement.TheVariants as written
@@ -19,7 +19,6 @@ use Rattle.bor_store_sql.specs.Texts.Meanings.{Asks, AsksIn}
 use Rattle.bor_store_sql.specs.Texts.Tables.{first_schema}
 use Rattle.bor_store_sql.specs.Found.{IsQuery}
 use Rattle.sqlite.specs.Query.{Query}
-use Rattle.std.specs.Option.{option_or}
 use Rattle.sqlite.proofs.Callers.{IsPlain, command_of, statement_of, runs_as}
 use Rattle.sqlite.specs.Command.TheVariants.{CreateTable, CreateIndex, Insert, Nothing}
 use Rattle.sqlite.specs.Source.{Source}
@@ -29,8 +28,8 @@ use Rattle.sqlite_ast.specs.declared.CreateTable.{CreateTable as CreateTableText
 use Rattle.sqlite_ast.specs.declared.CreateIndex.{CreateIndex as CreateIndexText}
 use Rattle.sqlite_ast.specs.declared.Conflict.TheVariants as conflict
 use Rattle.sqlite_ast.specs.declared.Rows.{Rows}
-use Rattle.sqlite_resolve.specs.Define.{table, index}
-use Rattle.sqlite_schema.specs.Names.{table_named, index_named, view_named}
+use Rattle.sqlite_resolve.specs.Define.{table}
+use Rattle.sqlite_schema.specs.Names.{table_named}
 use Rattle.sqlite.specs.Order.{Row}
 use Rattle.sqlite.specs.Does.{AtPlace}
 use Rattle.sqlite.specs.Rows.{Part}
@@ -42,16 +41,10 @@ abbrev Never : Result Compiled CompileError → Type 0
 Never r = Returns r → ⊥
 
 listed_never : (r : Result Compiled CompileError) → Never r → Never (if_select r)
-listed_never (Ok c) n = go (is_select c.command) n
-  where
-    go : (b : Bool) → Never (Ok c) → Never (cond b (Ok c) (Err NoSuchTable))
-    go true n = n
-    go false n = λ h. h
-listed_never (Err e) n = λ h. h
+listed_never r n = search rules
 
 either : (b : Bool) (x y : Result Compiled CompileError) → Never x → Never y → Never (cond b x y)
-either true x y n m = n
-either false x y n m = m
+either b x y n m = search rules
 
 abbrev pub IsReading : Statement → Type 0
 IsReading s = (query : Select) × (s ≡ written.Select query)
@@ -63,8 +56,7 @@ ReadsFirst (Err e) = ⊥
 
 of_command : (p : Parsed) (formats : List Name) (c : Result Command CompileError)
     → Never (and_then (and_then (and_then c (λ k. Ok (k, None))) (λ found. Ok (formats, found))) (λ plan. Ok (with_command p plan)))
-of_command p formats (Ok c) = λ h. true≢false (sym h)
-of_command p formats (Err e) = λ h. h
+of_command p formats c = search rules
 
 returns_none : (schema : Schema) (base : ℕ) (s : Statement) → IsReading s → returning schema base s ≡ Ok None
 unfolding returning
@@ -80,17 +72,12 @@ of_statement schema p is = by_shown p _ _ _ (returns_none schema _ p.statement i
 
 compiled_never : (schema : Schema) (text : List ℕ) → ReadsFirst (first text) → Never (compiled schema text)
 unfolding compiled
-compiled_never schema text is = go (first text) is
-  where
-    go : (r : Result Parsed CompileError) → ReadsFirst r → Never (and_then r (λ p. and_then (planned schema p) (λ plan. Ok (with_command p plan))))
-    go (Ok p) is = of_statement schema p is
-    go (Err e) is = absurd is
+compiled_never schema text is = search (rules, of_statement)
 
 -- so a query that was understood as one changes nothing, whatever the schema
 pub understood_never : (schema : Schema) (text : List ℕ) → ReadsFirst (first text) → Returns (understood schema text) → ⊥
 unfolding understood
-understood_never schema text is =
-    either (misses_table (compiled schema text)) (if_select (compiled listing_schema text)) (compiled schema text) (listed_never (compiled listing_schema text) (compiled_never listing_schema text is)) (compiled_never schema text is)
+understood_never schema text is = search (rules, either, listed_never, compiled_never)
 
 -- a query whatever the schema, which asks for this under that of the register's tables
 pub record IsSelect (text : List ℕ) (query : Query) : Type 0 where
@@ -135,29 +122,17 @@ IsIndexOf schema name k = (at : ℕ) × (on : Table) × (table_named schema name
 -- ---- step by step
 
 kept_on : {X : Type 0} (b : Bool) (e : CompileError) (x : Result X CompileError) (k : X) → cond b (Err e) x ≡ Ok k → x ≡ Ok k
-kept_on true e x k h = absurd (cc)
-kept_on false e x k h = h
+kept_on b e x k h = search rules
 
 -- no such name is there, and it is new
 is_new : (missing reserved other same : Bool) (b : Bool) → missing ≡ false
     → cond reserved (Err Misuse) (cond other (Err Exists) (cond same (cond missing (Ok false) (Err Exists)) (Ok true))) ≡ Ok b → b ≡ true
-is_new missing true other same b gone h = absurd (cc)
-is_new missing false true same b gone h = absurd (cc)
-is_new true false false true b gone h = absurd (true≢false gone)
-is_new false false false true b gone h = absurd (cc)
-is_new missing false false false b gone h = cc
+is_new missing reserved other same b gone h = search rules
 
 then_made : {X : Type 0} (new : Result Bool CompileError) (x : Result X CompileError) (ask : X → Bool) (e : CompileError) (made k : Command)
     → ((b : Bool) → new ≡ Ok b → b ≡ true)
     → and_then new (λ b. cond b (and_then x (λ t. cond (ask t) (Ok made) (Err e))) (Ok Nothing)) ≡ Ok k → k ≡ made
-then_made (Err f) x ask e made k only h = absurd (cc)
-then_made (Ok false) x ask e made k only h = absurd (true≢false (sym (only false refl)))
-then_made (Ok true) (Err f) ask e made k only h = absurd (cc)
-then_made (Ok true) (Ok t) ask e made k only h = go (ask t) h
-  where
-    go : (b : Bool) → cond b (Ok made) (Err e) ≡ Ok k → k ≡ made
-    go true h = cc
-    go false h = absurd (cc)
+then_made new x ask e made k only h = search rules
 
 -- what is found in its place
 found_in : {X Y : Type 0} (o : Option X) (e : CompileError) (f : X → Result Y CompileError) (k : Y) → and_then (or_else o e) f ≡ Ok k → (x : X) × (o ≡ Some x) × (f x ≡ Ok k)
@@ -169,31 +144,16 @@ found_in (Some x) e f k h = (x, refl, h)
 -- a new table is made, or there is an error
 new_alone : (schema : Schema) (formats : List Name) (def : CreateTableText) (k : Command) → def.if_missing ≡ false → create_table schema formats def ≡ Ok k → k ≡ CreateTable
 unfolding create_table creates
-new_alone schema formats def k missing h =
-    let same = option_or (table_named schema def.name) (view_named schema def.name) in
-    let other = index_named schema def.name in
-    then_made (creates def.if_missing def.name same other) (table formats def) (λ t. (length t.computed == length t.stamps.places) && not def.resolves) Unsupported CreateTable k
-    (λ b. is_new def.if_missing (is_reserved def.name) (is_some other) (is_some same) b missing) (kept_on (is_attached schema def.name) Unsupported _ k h)
+new_alone schema formats def k missing h = search (rules, then_made, is_new, kept_on)
 
 -- a new index is made, or there is an error
 index_alone : (schema : Schema) (name : List ℕ) (def : CreateIndexText) (k : Command) → def.if_missing ≡ false → def.table ≡ name → create_index schema def ≡ Ok k → IsIndexOf schema name k
 unfolding create_index creates
-index_alone schema name def k missing named h =
-    let same = index_named schema def.name in
-    let other = option_or (table_named schema def.name) (view_named schema def.name) in
-    let place = found_in (table_named schema def.table) NoSuchTable _ k (kept_on (is_reserved def.table) Misuse _ k h) in
-    let at = found_in (slice_get schema.tables place.0) NoSuchTable _ k place.2 in
-    let made : k ≡ CreateIndex place.0 =
-    then_made (creates def.if_missing def.name same other) (index at.0 def) (λ _. true) Unsupported (CreateIndex place.0) k
-    (λ b. is_new def.if_missing (is_reserved def.name) (is_some other) (is_some same) b missing) at.2 in
-    (place.0, at.0, subst (λ n. table_named schema n ≡ Some place.0) named place.1, at.1, made)
+index_alone schema name def k missing named h = search (rules, found_in, kept_on, then_made, is_new)
 
 means_by : (Is : Command → Type 0) (text : List ℕ) (p : Parsed) (k : Result Command CompileError) (c : Compiled) → ((it : Command) → k ≡ Ok it → Is it) → slice_range text p.start p.end ≡ text
     → and_then (and_then (and_then k (λ it. Ok (it, None))) (λ found. Ok (p.formats, found))) (λ plan. Ok (with_command p plan)) ≡ Ok c → p.formats ≡ [] → Means Is text c
-means_by Is text p (Err e) c is whole h none = absurd (cc)
-means_by Is text p (Ok k) c is whole h none =
-    let same : with_command p (p.formats, (k, None)) ≡ c = cc in
-    subst (Means Is text) same (record { command = is k refl; plain = (refl, none); whole = whole })
+means_by Is text p k c is whole h none = search rules
 
 -- what is understood of a statement that was read
 abbrev compiled_of : Schema → Parsed → Result Compiled CompileError
@@ -202,9 +162,7 @@ compiled_of schema p = and_then (planned schema p) (λ plan. Ok (with_command p 
 of_making : (schema : Schema) (text : List ℕ) (p : Parsed) (s : Statement) (c : Compiled) → Makes s → slice_range text p.start p.end ≡ text → compiled_of schema (record p { statement = s }) ≡ Ok c
     → Means (λ k. k ≡ CreateTable) text c
 unfolding planned meaning returning command timed
-of_making schema text p s c (def, is, missing) whole h =
-    means_by (λ k. k ≡ CreateTable) text (record p { statement = written.CreateTable def; formats = [] }) (create_table schema p.formats def) c (λ k. new_alone schema p.formats def k missing) whole
-    (subst (λ s. compiled_of schema (record p { statement = s }) ≡ Ok c) is h) refl
+of_making schema text p s c h whole k = search (rules, means_by, new_alone)
 
 of_indexing : (schema : Schema) (name text : List ℕ) (p : Parsed) (s : Statement) (c : Compiled) → Indexes name s → slice_range text p.start p.end ≡ text → p.formats ≡ [] → compiled_of schema (record p { statement = s }) ≡ Ok c
     → Means (IsIndexOf schema name) text c
@@ -237,20 +195,11 @@ compiled_indexing schema name text c = go (first text)
 -- ---- a text is understood under the schema, or as a query of the list of tables
 
 listed : (r : Result Compiled CompileError) (c : Compiled) → if_select r ≡ Ok c → (r ≡ Ok c) × (is_select c.command ≡ true)
-listed (Err e) c h = absurd (cc)
-listed (Ok d) c h = go (is_select d.command) refl h
-  where
-    go : (b : Bool) → is_select d.command ≡ b → cond b (Ok d) (Err NoSuchTable) ≡ Ok c → ◌≡◌ {A = Result Compiled CompileError} (Ok d) (Ok c) × (is_select c.command ≡ true)
-    go true is h = (h, let same : d ≡ c = cc in subst (λ (x : Compiled). is_select x.command ≡ true) same is)
-    go false is h = absurd (cc)
+listed r c h = search rules
 
 pub understood_so : (schema : Schema) (text : List ℕ) (c : Compiled) → understood schema text ≡ Ok c → (compiled schema text ≡ Ok c) ⊎ ((compiled listing_schema text ≡ Ok c) × (is_select c.command ≡ true))
 unfolding understood
-understood_so schema text c = go (misses_table (compiled schema text))
-  where
-    go : (b : Bool) → cond b (if_select (compiled listing_schema text)) (compiled schema text) ≡ Ok c → (compiled schema text ≡ Ok c) ⊎ ((compiled listing_schema text ≡ Ok c) × (is_select c.command ≡ true))
-    go true h = inr (listed (compiled listing_schema text) c h)
-    go false h = inl h
+understood_so schema text c = search (rules, listed)
 
 pub making_means : (schema : Schema) (text : List ℕ) (c : Compiled) → Reads Makes text (first text) → understood schema text ≡ Ok c → Means (λ k. k ≡ CreateTable) text c
 making_means schema text c is h = elim (understood_so schema text c h) [
@@ -304,11 +253,7 @@ module _ (schema : Schema) (table : Table) (at tree : ℕ) (source : Source) (un
 
   pub putting_means : (text : List ℕ) → IsPutting table source (first text) → IsInsert at source (understood schema text)
   unfolding understood
-  putting_means text is = go (compiled schema text) (compiled_putting text is)
-    where
-      go : (r : Result Compiled CompileError) → IsInsert at source r → IsInsert at source (cond (misses_table r) (if_select (compiled listing_schema text)) r)
-      go (Ok c) is = is
-      go (Err e) is = absurd is
+  putting_means text is = search (rules, compiled_putting)
 
 -- ---- a text that is run
 

@@ -1,5 +1,5 @@
 -- The rows that each query gives of a register that is shown.
-use Rattle.std.proofs.Common.{◌≡◌, ℕ, pos, Bool, List, [], ◌∷◌, map, filter, Option, Some, None, refl, sym, ℤ, true, cond, ◌++◌, ap, ◌∙◌, ◌<◌, false, ◌&&◌, ◌==◌, take, drop, reverse, ap₂, subst, flat_map, is_eq, bytes_eq, is_some, ◌||◌}
+use Rattle.std.proofs.Common.{◌≡◌, ℕ, pos, Bool, List, [], ◌∷◌, map, filter, Some, refl, sym, true, ◌++◌, ap, ◌∙◌, ◌<◌, false, ◌&&◌, ◌==◌, take, drop, reverse, ap₂, subst, flat_map, is_eq, bytes_eq, is_some, ◌||◌, rules}
 use Rattle.sqlite.specs.declared.types.Value.TheVariants.{Null, Int, Text, Blob}
 use Rattle.sqlite.specs.Order.{Row}
 use Rattle.sqlite.specs.Term.{Term}
@@ -7,18 +7,15 @@ use Rattle.sqlite.specs.Query.{Query, output}
 use Rattle.sqlite.specs.State.{State}
 use Rattle.sqlite_value.specs.declared.keys.Key.{Key}
 use Rattle.sqlite_keyed.proofs.ListLemmas.{ascending-filter, map-flat_map, all_of, map-map}
-use Rattle.bor_terms.specs.Span.{Range}
 use Rattle.bor_register.specs.declared.member.Member.{Member}
 use Rattle.bor_register.specs.declared.filing.AcceptedFiling.{AcceptedFiling}
 use Rattle.bor_register.specs.Register.{Register, filings_of}
 use Rattle.bor_store_sql.specs.Texts.Queries.{table_query, rising, all_statements_query, all_interests_query, falling, all_register_query, more_statements_query, last_filing_query, last_of_series_query, statements_of_subject_query}
 use Rattle.bor_store_sql.specs.declared.rows.typed.Placed.{Placed}
-use Rattle.bor_store_sql.specs.declared.rows.typed.Part.{Part}
-use Rattle.bor_store_sql.specs.declared.rows.typed.Part.TheVariants as part
 use Rattle.bor_store_sql.specs.declared.rows.typed.StatementRow.{StatementRow}
 use Rattle.bor_store_sql.specs.declared.rows.typed.InterestRow.{InterestRow}
 use Rattle.bor_store_sql.specs.declared.rows.typed.IdentifierRow.{IdentifierRow}
-use Rattle.bor_store_sql.specs.Rows.Placed.{bare, placed, interest_rows, identifier_rows, if_said, period_of, period_rows, same_place, filing_row, filing_lines}
+use Rattle.bor_store_sql.specs.Rows.Placed.{bare, placed, interest_rows, identifier_rows, period_of, period_rows, same_place, filing_row, filing_lines}
 use Rattle.bor_store_sql.specs.Rows.Encoding.{agent_columns, filing_rows, statement_columns, interest_columns, identifier_columns, contents, period_columns, truth, register_columns, line_columns, shown_columns}
 use Rattle.bor_store_sql.specs.Changing.{row_passes, days_of}
 use Rattle.bor_store_sql.proofs.Finding.{Asked, Found, lists_now, asked_now, found_as, has_now, answers, asked_both}
@@ -45,8 +42,6 @@ use Rattle.sqlite_sql.specs.declared.ops.BinaryOp.TheVariants.{Compare}
 use Rattle.sqlite_sql.specs.declared.ops.CompareOp.TheVariants.{Eq}
 use Rattle.sqlite_value.proofs.OrderLemmas.{value_cmp-Blob}
 use Rattle.bor_terms.specs.Texts.{is_same}
-use Rattle.bods_read.specs.declared.details.Details.{Details}
-use Rattle.bods_read.specs.declared.details.Details.TheVariants as details
 use Rattle.bor_register.specs.Publication.{filing_shown}
 use Rattle.bor_store_sql.proofs.Plain.{is_query}
 use Rattle.bor_store_sql.proofs.StoredMembers.{numbered_of}
@@ -54,20 +49,10 @@ use Rattle.bor_store_sql.proofs.StoredMembers.{numbered_of}
 -- ---- what is shown of a row
 
 pub statement_shown : (s : StatementRow) → (shown_as 8 refl [] [] all_statements_query.project all_statements_query.order (λ id x. refl) all_statements_query (statement_columns s)).1 ≡ statement_columns s
-statement_shown s = go s.part
-  where
-    go : (p : Part) → (shown_as 8 refl [] [] all_statements_query.project all_statements_query.order (λ id x. refl) all_statements_query (statement_columns (record s { part = p }))).1 ≡ statement_columns (record s { part = p })
-    go (part.Entity kind name) = refl
-    go (part.Person kind name) = refl
-    go (part.Relationship subject party) = refl
+statement_shown s = search rules
 
 pub interest_shown : (i : InterestRow) → (shown_as 11 refl [] [] all_interests_query.project all_interests_query.order (λ id x. refl) all_interests_query (interest_columns i)).1 ≡ interest_columns i
-interest_shown i = go i.interest.share
-  where
-    go : (o : Option Range) → (shown_as 11 refl [] [] all_interests_query.project all_interests_query.order (λ id x. refl) all_interests_query (interest_columns (record i { interest = record i.interest { share = o } }))).1
-        ≡ interest_columns (record i { interest = record i.interest { share = o } })
-    go None = refl
-    go (Some r) = refl
+interest_shown i = search rules
 
 -- ---- by table
 
@@ -170,12 +155,7 @@ day_columns i = period_columns (period_of i)
 -- its row, before those of others
 one_listed : (i : InterestRow) (rows : List PeriodRow) (is : List InterestRow) → map period_columns rows ≡ map day_columns (filter is_said is)
     → map period_columns (period_rows i ++ rows) ≡ map day_columns (filter is_said (i ∷ is))
-one_listed i rows is more = go i.interest.starts i.interest.ends
-  where
-    go : (starts ends : Option ℤ) → map period_columns (if_said (period_of i) starts ends ++ rows) ≡ map day_columns (cond (is_some starts || is_some ends) (i ∷ filter is_said is) (filter is_said is))
-    go None None = more
-    go None (Some end) = ap (λ l. day_columns i ∷ l) more
-    go (Some start) ends = ap (λ l. day_columns i ∷ l) more
+one_listed i rows is more = search rules
 
 pub listed : (is : List InterestRow) → map period_columns (flat_map period_rows is) ≡ map day_columns (filter is_said is)
 listed [] = refl
@@ -217,8 +197,7 @@ periods_of_statement_found at =
 -- ---- the queries of version 2: tests of columns
 
 as_truth : (b : Bool) → from_truth (Some b) ≡ truth b
-as_truth true = refl
-as_truth false = refl
+as_truth b = search rules
 
 blob_test : (a b : List ℕ) → binary (Compare Eq Binary) (Blob a) (Blob b) ≡ truth (is_same a b)
 unfolding binary
@@ -230,14 +209,7 @@ null_test a = refl
 
 subject_test : (agent declaration rec : List ℕ) (q : Placed) → row_passes statements_of_subject_query.filter (Text agent ∷ Text declaration ∷ Text rec ∷ []) (statement_columns (bare q))
     ≡ (is_same q.at.agent agent && (is_same q.statement.declaration declaration && names_subject rec q.statement.details))
-subject_test agent declaration rec q = go q.statement.details
-  where
-    go : (d : Details) → row_passes statements_of_subject_query.filter (Text agent ∷ Text declaration ∷ Text rec ∷ []) (statement_columns (bare (record q { statement = record q.statement { details = d } })))
-        ≡ (is_same q.at.agent agent && (is_same q.statement.declaration declaration && names_subject rec d))
-    go (details.Entity kind name identifiers) = ap₂ (λ x y. x && y) (text_test q.at.agent agent) (ap₂ (λ x y. x && y) (text_test q.statement.declaration declaration) (and-true _ ∙ null_test rec))
-    go (details.Person kind name) = ap₂ (λ x y. x && y) (text_test q.at.agent agent) (ap₂ (λ x y. x && y) (text_test q.statement.declaration declaration) (and-true _ ∙ null_test rec))
-    go (details.Relationship None party interests) = ap₂ (λ x y. x && y) (text_test q.at.agent agent) (ap₂ (λ x y. x && y) (text_test q.statement.declaration declaration) (and-true _ ∙ null_test rec))
-    go (details.Relationship (Some subject) party interests) = ap₂ (λ x y. x && y) (text_test q.at.agent agent) (ap₂ (λ x y. x && y) (text_test q.statement.declaration declaration) (and-true _ ∙ text_test subject rec))
+subject_test agent declaration rec q = search (rules, text_test, and-true, null_test)
 
 -- ---- the last one
 

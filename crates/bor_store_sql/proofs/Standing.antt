@@ -1,8 +1,7 @@
 -- What stands in a database while tables are made beside it: its tables, and the trees that SQL here doesn't read.
-use Rattle.std.proofs.Common.{◌≡◌, ◌≢◌, true≢false, ◌<◌, ◌≤◌, ◌+◌, ◌%◌, ◌==◌, ◌||◌, ℕ, pos, Bool, true, List, [], ◌∷◌, filter, find, length, unwrap_or, Option, None, Some, inl, inr, refl, sym, ap, subst, ◌∙◌, arith, suc, max, fold, ◌++◌, append_assoc, slice_get}
+use Rattle.std.proofs.Common.{◌≡◌, ◌≢◌, true≢false, ◌<◌, ◌≤◌, ◌+◌, ◌%◌, ◌==◌, ◌||◌, ℕ, pos, Bool, true, List, [], ◌∷◌, filter, find, length, unwrap_or, Option, None, Some, inl, inr, refl, sym, ap, subst, ◌∙◌, arith, max, fold, ◌++◌, append_assoc, slice_get, rules}
 use Rattle.std.specs.List.{AllByRecursion, AllZip, position_from}
 use Rattle.std.proofs.lemmas.Bool.{cases_Bool, eqb-false, eqb-true}
-use Rattle.std.proofs.lemmas.Bool.Decides.{nat_tests}
 use Rattle.sqlite.specs.Change.{next_tree, past_views}
 use Rattle.sqlite.specs.Effect.{Database, IsDatabase, SparesFrozen}
 use Rattle.sqlite.specs.Order.{Row, column}
@@ -42,9 +41,7 @@ zip_few R (x ∷ y ∷ xs) (z ∷ w ∷ ys) a b all few h k = absurd (omega (ari
 
 -- the codes of frozen trees are 4 and 5, below 6
 frozen_codes : (n : ℕ) (c : Bool) → 3 ≤ n → n ≤ 5 → 4 ≤ n % 8 → ((n == 4) || (n == 5) || c) ≡ true
-frozen_codes n c low high kept =
-    let small : ((n == 4) || (n == 5)) ≡ true = grind (arith, nat_tests, low, high, kept) in
-    ap (λ b. b || c) small
+frozen_codes n c low high kept = search rules
 
 -- ---- a row that is found
 
@@ -86,10 +83,7 @@ module _ (db : Database) (sound : IsDatabase db) (tree : ℕ) (no_table : AllByR
   ]
 
   same_test : (row : Row) (view : Stored) → IsViewRow row view → has_rowid (pos (tree + 1)) row ≡ (view.tree == tree)
-  same_test row view is = elim (cases_Bool (view.tree == tree)) [
-    | inl e ↦ has_own_rowid row (tree + 1) (subst (λ t. rowid row ≡ Int (pos (t + 1))) (eqb-true view.tree tree e) is.described.id) ∙ sym e
-    | inr e ↦ other_rowid row (view.tree + 1) (tree + 1) is.described.id (λ same. eqb-false view.tree tree e (omega (arith, same))) ∙ sym e
-  ]
+  same_test row view is = search (rules, cases_Bool, has_own_rowid, eqb-true, other_rowid, eqb-false)
 
   pub one_row : length (filter (λ (v : Stored). v.tree == tree) db.schema.views) ≤ 1 → (a b : Row) → Has objects a → IsAt a → Has objects b → IsAt b → a ≡ b
   one_row few a b has is has_b is_b =
@@ -106,19 +100,11 @@ module _ (db : Database) (sound : IsDatabase db) (tree : ℕ) (no_table : AllByR
 
   -- it is one of those that stay
   foreign : (frozen : 4 ≤ number_in (column (row_for objects tree) 5) % 8) → is_foreign_row (row_for objects tree) ≡ true
-  foreign frozen =
-      let there = row_there frozen in
-      let view = view_of (row_for objects tree) there.0 there.1 in
-      let code = aside_code (row_for objects tree) view.0 view.2.kind view.2.owner view.2.code view.0.foreign view.2.aside in
-      let same = view.2.described.shape_is in
-      frozen_codes (number_in (column (row_for objects tree) 5)) _ (omega (arith, code.0, same)) (omega (arith, code.1, same)) frozen
+  foreign frozen = search (rules, row_there, view_of, aside_code, frozen_codes)
 
   -- its number is one of those that the schema uses, and not that of a list of the store's own
   low : 4 ≤ number_in (column (row_for objects tree) 5) % 8 → (tree < next_tree db.schema) × (tree < 65536)
-  low frozen =
-      let there = row_there frozen in
-      let view = view_of (row_for objects tree) there.0 there.1 in
-      (omega (arith, view.3, view_below db.schema view.0 view.1), omega (arith, view.3, view.2.described.low))
+  low frozen = search (rules, row_there, view_of, view_below)
 
 -- ---- from one statement to the next
 
@@ -144,24 +130,11 @@ still_unread old new sound sound_new spares listed tree is =
     }
 
 pub unread_all : (first then last : Database) → IsDatabase then → Spares first then → (IsDatabase first → SparesUnread first then) → (IsDatabase then → SparesUnread then last) → IsDatabase first → SparesUnread first last
-unread_all first then last sound_then spares before after sound =
-    let one = before sound in
-    let two = after sound_then in
-    record {
-      listed = λ row has is. two.listed row (one.listed row has is) is;
-      rows = λ tree is. two.rows tree (still_unread first then sound sound_then spares one.listed tree is) ∙ one.rows tree is;
-      version = two.version ∙ one.version;
-    }
+unread_all first then last sound_then spares before after sound = search (rules, still_unread)
 
 -- one statement
 pub unread : (old new : Database) → SparesFrozen old new → IsDatabase old → SparesUnread old new
-unread old new frozen sound = record {
-  listed = frozen.texts;
-  rows = λ tree is.
-      let bound = (low old sound tree is.no_table is.no_index is.frozen).1 in
-      frozen.rows tree (λ same. omega (arith, bound, same)) (λ same. omega (arith, bound, same)) is.frozen;
-  version = frozen.version;
-}
+unread old new frozen sound = search (rules, low)
 
 -- ---- tables that stand, while others are made beside them: indexes beside tables that are there
 
@@ -186,10 +159,7 @@ found_still p from (x ∷ xs) more k h = elim (cases_Bool (p x)) [ inl e ↦ rw 
 
 pub found_last : {X : Type 0} (p : X → Bool) (from : ℕ) (xs : List X) (x : X) → position_from p from xs ≡ None → p x ≡ true → position_from p from (xs ++ x ∷ []) ≡ Some (from + length xs)
 found_last p from [] x none is = let same : from + 0 ≡ from = omega arith in rw (is, same) refl
-found_last p from (y ∷ xs) x none is = elim (cases_Bool (p y)) [
-  | inl e ↦ absurd (let no : Some from ≡ None = rw e at none in cc)
-  | inr e ↦ let same : from + 1 + length xs ≡ from + suc (length xs) = omega arith in rw e (found_last p (from + 1) xs x (rw e at none) is ∙ ap Some same)
-]
+found_last p from (y ∷ xs) x none is = search (rules, cases_Bool, found_last p (from + 1) xs x)
 
 pub got_still : {X : Type 0} (xs more : List X) (k : ℕ) (x : X) → slice_get xs k ≡ Some x → slice_get (xs ++ more) k ≡ Some x
 got_still xs more k x h = nth_left xs more k (slice_get_within xs k x h) ∙ h
@@ -268,16 +238,7 @@ both_there mid new spares low (t ∷ tables) others h has more =
 -- ---- indexes
 
 index_still : (old new : Database) (table : Table) (index : Index) → Spares old new → HasIndex old.schema table index → HasIndex new.schema table index
-index_still old new table index spares is = record {
-  place = is.place;
-  tree = is.tree;
-  named = rw spares.indexes.1 (found_still (λ (i : Index). same_name i.name index.name) 0 old.schema.indexes spares.indexes.0 is.place is.named);
-  at = is.at;
-  on = is.on;
-  table_is = rw spares.tables.1 (found_still (λ (t : Table). same_name t.name table.name) 0 old.schema.tables spares.tables.0 is.at is.table_is);
-  on_is = rw spares.tables.1 (got_still old.schema.tables spares.tables.0 is.at is.on is.on_is);
-  found = rw spares.indexes.1 (got_still old.schema.indexes spares.indexes.0 is.place _ is.found);
-}
+index_still old new table index spares is = search (rules, found_still, got_still)
 
 indexes_still : (old new : Database) → Spares old new → (indexes : List (Table × Index)) → HasIndexes indexes old.schema → HasIndexes indexes new.schema
 indexes_still old new spares indexes has = all_weaker (λ i. HasIndex old.schema i.0 i.1) (λ i. HasIndex new.schema i.0 i.1) (λ i. index_still old new i.0 i.1 spares) indexes has
@@ -290,25 +251,10 @@ theirs_still old new spares indexes has =
 
 module _ (old mid new : Database) (one : Spares old mid) (two : Spares mid new) (tables others : List Table) (indexes further : List (Table × Index)) where
   table_made : MakesOnly tables indexes old.schema mid.schema → MakesOnly others further mid.schema new.schema → (t : Table) → Has new.schema.tables t → next_tree old.schema ≤ t.tree → IsTableMade (tables ++ others) old.schema t
-  table_made first second t has low = elim (has_either mid.schema.tables two.tables.0 t (subst (λ xs. Has xs t) two.tables.1 has)) [
-    | inl h ↦ elim (all_has (λ (t : Table). next_tree old.schema ≤ t.tree → IsTableMade tables old.schema t) mid.schema.tables t first.tables_are h low) [
-      | inl is ↦ inl (is.0, has_left tables others is.0 is.1, is.2)
-      | inr is ↦ inr is
-    ]
-    | inr h ↦ elim (all_has (λ (t : Table). next_tree mid.schema ≤ t.tree → IsTableMade others mid.schema t) new.schema.tables t second.tables_are has (all_has (λ (t : Table). next_tree mid.schema ≤ t.tree) two.tables.0 t two.tables.2 h)) [
-      | inl is ↦ inl (is.0, has_right tables others is.0 is.1, is.2)
-      | inr is ↦ inr (sym first.counts ∙ is.0, is.1)
-    ]
-  ]
+  table_made first second t has low = search (rules, has_either, all_has, has_left, has_right)
 
   over_still : (table : Table) (index i : Index) → IsIndexOver mid.schema table index i → IsIndexOver new.schema table index i
-  over_still table index i is = (
-    is.0,
-    is.1,
-    rw two.tables.1 (found_still (λ (t : Table). same_name t.name table.name) 0 mid.schema.tables two.tables.0 is.0 is.2),
-    rw two.tables.1 (got_still mid.schema.tables two.tables.0 is.0 is.1 is.3),
-    is.4,
-  )
+  over_still table index i is = search (rules, found_still, got_still)
 
   index_made : MakesOnly tables indexes old.schema mid.schema → MakesOnly others further mid.schema new.schema → (i : Index) → Has new.schema.indexes i → next_tree old.schema ≤ i.tree → IsIndexMade (indexes ++ further) old.schema new.schema i
   index_made first second i has low = elim (has_either mid.schema.indexes two.indexes.0 i (subst (λ xs. Has xs i) two.indexes.1 has)) [
@@ -323,11 +269,7 @@ module _ (old mid new : Database) (one : Spares old mid) (two : Spares mid new) 
   ]
 
   pub only_all : MakesOnly tables indexes old.schema mid.schema → MakesOnly others further mid.schema new.schema → MakesOnly (tables ++ others) (indexes ++ further) old.schema new.schema
-  only_all first second = record {
-    tables_are = all_from (λ (t : Table). next_tree old.schema ≤ t.tree → IsTableMade (tables ++ others) old.schema t) new.schema.tables (table_made first second);
-    indexes_are = all_from (λ (i : Index). next_tree old.schema ≤ i.tree → IsIndexMade (indexes ++ further) old.schema new.schema i) new.schema.indexes (index_made first second);
-    counts = second.counts ∙ first.counts;
-  }
+  only_all first second = search (rules, all_from, table_made, index_made)
 
 -- ---- all that is added
 

@@ -1,5 +1,5 @@
 -- Stored members stay in order, numbered, formed and counted.
-use Rattle.std.proofs.Common.{◌≡◌, ℕ, ℤ, ◌+◌, ◌<◌, true, false, List, [], ◌∷◌, ◌++◌, length, arith, if◌then◌else◌, All}
+use Rattle.std.proofs.Common.{◌≡◌, ℕ, ℤ, ◌+◌, ◌<◌, true, false, List, [], ◌∷◌, ◌++◌, length, arith, if◌then◌else◌, All, rules}
 use Rattle.std.proofs.lemmas.List.Elements.{All-nil, All-cons, All-head, All-tail, All-push}
 use Rattle.bor_terms.specs.Day.{IsDay}
 use Rattle.bor_terms.specs.Texts.{is_same, is_below, is_agent_name, is_lodge_key, is_token}
@@ -19,17 +19,11 @@ use Rattle.bor_store_sql.specs.Changing.{added, enrolled}
 module _ (agent : List ℕ) where
   pub numbered_with : (new : List AcceptedFiling) (ms : List Member) → AreNumbered 1 new → AllNumbered ms → AllNumbered (with_filings agent new ms)
   numbered_with new [] one all = tt
-  numbered_with new (m ∷ ms) one all = elim (is_same m.name agent) as (λ b. AllNumbered (if b then record m { filings = new } ∷ ms else m ∷ with_filings agent new ms)) [
-    | true ↦ (one, all.1)
-    | false ↦ (all.0, numbered_with new ms one all.1)
-  ]
+  numbered_with new (m ∷ ms) one all = search (rules, numbered_with new ms one)
 
   pub numbered_of : (ms : List Member) → AllNumbered ms → AreNumbered 1 (filings_of agent ms)
   numbered_of [] all = tt
-  numbered_of (m ∷ ms) all = elim (is_same m.name agent) as (λ b. AreNumbered 1 (if b then m.filings else filings_of agent ms)) [
-    | true ↦ all.0
-    | false ↦ numbered_of ms all.1
-  ]
+  numbered_of (m ∷ ms) all = search (rules, numbered_of ms)
 
   abbrev pub AllCounted : List AcceptedFiling → Type 0
   AllCounted fs = All (λ (f : AcceptedFiling). AreCounted f.statements) fs
@@ -73,10 +67,7 @@ added_stored agent key due bytes ss r s room is_key is_due are_bytes formed coun
 
 numbered_new : (new : Member) (ms : List Member) → AreNumbered 1 new.filings → AllNumbered ms → AllNumbered (with_member new ms)
 numbered_new new [] one all = (one, tt)
-numbered_new new (m ∷ ms) one all = elim (is_below m.name new.name) as (λ b. AllNumbered (if b then m ∷ with_member new ms else new ∷ m ∷ ms)) [
-  | true ↦ (all.0, numbered_new new ms one all.1)
-  | false ↦ (one, all)
-]
+numbered_new new (m ∷ ms) one all = search (rules, numbered_new new ms one)
 
 abbrev IsCountedMember : Member → Type 0
 IsCountedMember m = All (λ (f : AcceptedFiling). AreCounted f.statements) m.filings

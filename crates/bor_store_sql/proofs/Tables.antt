@@ -1,5 +1,5 @@
 -- The rows that a table keeps under their rowids after a change, and the answer of a SELECT over it.
-use Rattle.std.proofs.Common.{◌≡◌, ◌≤◌, ◌<◌, ℕ, Bool, true, false, map, filter, ◌+◌, ℤ, pos, ◌+ℤ◌, List, [], ◌∷◌, ◌++◌, fold, refl, sym, ap, subst, ◌∙◌, arith, Less, not, IsPermutation, cond, Greater, ◌^◌, flat_map, nat_le, Some, inl, inr, bytes_eq, if◌then◌else◌, negsuc, length, subst₂, is_eq, int_cmp}
+use Rattle.std.proofs.Common.{◌≡◌, ◌≤◌, ◌<◌, ℕ, Bool, true, false, map, filter, ◌+◌, ℤ, pos, ◌+ℤ◌, List, [], ◌∷◌, ◌++◌, fold, refl, sym, ap, subst, ◌∙◌, arith, Less, not, IsPermutation, cond, Greater, ◌^◌, flat_map, nat_le, Some, inl, inr, bytes_eq, if◌then◌else◌, negsuc, length, subst₂, is_eq, int_cmp, rules}
 use Rattle.std.proofs.lemmas.Int.{ints}
 use Rattle.std.proofs.lemmas.Bool.Decides.{nat_tests}
 use Rattle.sqlite.specs.declared.types.Value.TheVariants.{Int, Text}
@@ -182,8 +182,7 @@ module _ (p q : Row → Bool) (same_test : (id : ℕ) (x : Row) → p (Int (pos 
 -- ---- the answer of a SELECT over one table
 
 truth_back : (b : Bool) → is_true (from_truth (Some b)) ≡ b
-truth_back true = refl
-truth_back false = refl
+truth_back b = search rules
 
 -- whether `=` holds of two values
 abbrev pub are_equal : Value → Value → Bool

@@ -1,5 +1,5 @@
 -- The effects of an INSERT of one row, a DELETE and an UPDATE, in one of the seven tables.
-use Rattle.std.proofs.Common.{◌≡◌, ◌≢◌, ◌⊎◌, inl, inr, ℕ, ℤ, Option, ◌/◌, List, [], ◌∷◌, append-nil, length, slice_get, Bool, true, false, cond, None, Some, Ok, Err, Result, refl, sym, ap, ap₂, subst, ◌∙◌, ◌==◌, map, drop, not, true≢false}
+use Rattle.std.proofs.Common.{◌≡◌, ◌≢◌, ◌⊎◌, inl, inr, ℕ, ℤ, Option, ◌/◌, List, [], ◌∷◌, append-nil, length, slice_get, Bool, true, false, cond, None, Some, Ok, Err, Result, refl, sym, ap, ap₂, subst, ◌∙◌, ◌==◌, map, drop, not, rules}
 use Rattle.std.specs.List.{AllByRecursion, flat_map, filter_map, list_all}
 use Rattle.sqlite.specs.declared.types.Value.TheVariants.{Null, Int}
 use Rattle.sqlite.specs.Order.{Row}
@@ -28,7 +28,6 @@ use Rattle.sqlite_rules.specs.Calls.{ids_of}
 use Rattle.sqlite_schema.specs.declared.program.Program.{Program}
 use Rattle.sqlite_schema.specs.Rules.{parent_key}
 use Rattle.bor_store_sql.specs.Texts.Tables.{keep_schema}
-use Rattle.std.proofs.lemmas.Bool.{cases_Bool, eqb-false, eqb-true}
 use Rattle.sqlite_schema.specs.declared.schema.Index.{Index}
 use Rattle.bor_store_sql.specs.Rows.Encoding.{Contents}
 use Rattle.bor_store_sql.specs.Kept.{Keeps}
@@ -45,8 +44,7 @@ pub same_value : {B E : Type 0} {a b : B} → ◌≡◌ {A = Result B E} (Ok a) 
 same_value e = cc
 
 either : (b : Bool) (x : Value) → cond b x x ≡ x
-either true x = refl
-either false x = refl
+either b x = search rules
 
 pub cast_null : cast Integer Null ≡ Null
 unfolding unary
@@ -232,18 +230,9 @@ works_at tree olds news none = flat_map (λ child. filter_map (λ ref. work_by 0
 
 -- no key acts there: `refl` finds both facts of a tree that is written out
 pub no_key_acts : (tree : ℕ) → ((olds news : List Row) → works_at tree olds news true ≡ []) → ((olds news : List Row) → works_at tree olds news false ≡ []) → (olds news : List Row) → works keep_schema Enforced 0 tree olds news ≡ []
-no_key_acts tree some none olds news = go (length news == 0)
-  where
-    go : (b : Bool) → works_at tree olds news b ≡ []
-    go true = some olds news
-    go false = none olds news
+no_key_acts tree some none olds news = search rules
 
 -- ---- one of the seven tables is changed, and the others are as they were
-
--- no index has the tree: `refl` finds it of a schema that is written out
-no_index : (indexes : List Index) (t : ℕ) → list_all (λ (i : Index). not (i.tree == t)) indexes ≡ true → AllByRecursion (λ (i : Index). i.tree ≢ t) indexes
-no_index [] t h = tt
-no_index (i ∷ indexes) t h = elim (cases_Bool (i.tree == t)) [ inl e ↦ absurd (true≢false (sym (rw e at h))) | inr e ↦ (eqb-false i.tree t e, no_index indexes t (rw e at h)) ]
 
 abbrev pub AreOthersKept : ℕ → Database → Database → Type 0
 AreOthersKept tree old new = (t : ℕ) → t ≢ tree → IsNoIndex keep_schema t → new.trees t ≡ old.trees t
@@ -263,20 +252,7 @@ with_rows tree rows t = record {
 module _ (tree : ℕ) (old new : Database) (others : AreOthersKept tree old new) (rows : List Row) (kept : Keeps rows (new.trees tree)) where
   -- a table has the rows that it had, or is the one that is changed
   stays : (t : ℕ) → list_all (λ (i : Index). not (i.tree == t)) keep_schema.indexes ≡ true → (xs : List Row) → Keeps xs (old.trees t) → Keeps (cond (t == tree) rows xs) (new.trees t)
-  stays t free xs keeps = elim (cases_Bool (t == tree)) [
-    | inl same ↦ rw same (subst (λ n. Keeps rows (new.trees n)) (sym (eqb-true t tree same)) kept)
-    | inr apart ↦ rw apart (subst (Keeps xs) (sym (others t (eqb-false t tree apart) (no_index keep_schema.indexes t free))) keeps)
-  ]
+  stays t free xs keeps = search rules
 
   pub one_changed : (t : Contents) → IsDatabase new → new.schema ≡ keep_schema → Has t old → Has (with_rows tree rows t) new
-  one_changed t sound schema has = record {
-    sound = sound;
-    schema = schema;
-    register = stays 0 refl t.register has.register;
-    agents = stays 2 refl t.agents has.agents;
-    filings = stays 5 refl t.filings has.filings;
-    statements = stays 8 refl t.statements has.statements;
-    interests = stays 11 refl t.interests has.interests;
-    identifiers = stays 13 refl t.identifiers has.identifiers;
-    periods = stays 19 refl t.periods has.periods;
-  }
+  one_changed t sound schema has = search (rules, stays)

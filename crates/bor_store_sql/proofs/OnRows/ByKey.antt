@@ -1,5 +1,5 @@
 -- An agent's part of a register, from the rows that are found by key.
-use Rattle.std.proofs.Common.{◌≡◌, ℕ, ◌+◌, false, List, [], ◌∷◌, ◌++◌, length, take, reverse, Option, Some, None, refl, ap, ◌∙◌, arith, slice_get, option_map, unwrap_or}
+use Rattle.std.proofs.Common.{◌≡◌, ℕ, ◌+◌, false, List, [], ◌∷◌, ◌++◌, length, take, reverse, Option, Some, None, refl, ap, ◌∙◌, arith, slice_get, option_map, unwrap_or, rules}
 use Rattle.std.specs.List.{last_or}
 use Rattle.std.proofs.lemmas.List.{reverse-append}
 use Rattle.bor_terms.specs.Texts.{is_same}
@@ -11,8 +11,7 @@ use Rattle.bor_store_sql.specs.Rows.Stored.{AreNumbered}
 
 -- whether its file has these bytes
 pub bytes_are : (bytes : List ℕ) (found : Option AcceptedFiling) → unwrap_or (option_map (λ (f : AcceptedFiling). is_same f.bytes bytes) found) false ≡ has_bytes bytes found
-bytes_are bytes None = refl
-bytes_are bytes (Some f) = refl
+bytes_are bytes found = search rules
 
 -- ---- whether one passes a test
 
@@ -21,16 +20,14 @@ first_or o [] = o
 first_or o (x ∷ xs) = Some x
 
 first_pushed : {X : Type 0} (o : Option X) (ys : List X) (x : X) → first_or o (ys ++ x ∷ []) ≡ first_or (Some x) ys
-first_pushed o [] x = refl
-first_pushed o (y ∷ ys) x = refl
+first_pushed o ys x = search rules
 
 first_reversed : {X : Type 0} (o : Option X) (xs : List X) → first_or o (reverse xs) ≡ last_or o xs
 first_reversed o [] = refl
 first_reversed o (x ∷ xs) = ap (first_or o) (reverse-append (x ∷ []) xs) ∙ first_pushed o (reverse xs) x ∙ first_reversed (Some x) xs
 
 first_taken : {X : Type 0} (ys : List X) → slice_get (take 1 ys) 0 ≡ first_or None ys
-first_taken [] = refl
-first_taken (y ∷ ys) = refl
+first_taken ys = search rules
 
 pub last_is : {X : Type 0} (xs : List X) → slice_get (take 1 (reverse xs)) 0 ≡ last_or None xs
 last_is xs = first_taken (reverse xs) ∙ first_reversed None xs

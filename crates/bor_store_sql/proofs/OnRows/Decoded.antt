@@ -1,5 +1,5 @@
 -- Each value from the columns that it has: no two values have the same.
-use Rattle.std.proofs.Common.{◌≡◌, ℕ, zero, suc, ℤ, pos, negsuc, Bool, true, false, List, [], map, Option, Some, None, option_map, refl, sym, ap, ap₂, ◌∙◌, unwrap_or}
+use Rattle.std.proofs.Common.{◌≡◌, ℕ, zero, suc, ℤ, pos, negsuc, Bool, true, false, List, [], map, Option, Some, None, option_map, refl, sym, ap, ap₂, ◌∙◌, unwrap_or, rules}
 use Rattle.sqlite.specs.declared.types.Value.{Value}
 use Rattle.sqlite.specs.declared.types.Value.TheVariants.{Int, Text, Blob}
 use Rattle.sqlite.specs.Order.{Row, column}
@@ -61,24 +61,21 @@ abbrev flag_in : Value → Bool
 flag_in v = is_some_number (number_in v)
 
 flag_back : (b : Bool) → flag_in (truth b) ≡ b
-flag_back true = refl
-flag_back false = refl
+flag_back b = search rules
 
 abbrev text_or_none : Value → Option (List ℕ)
 text_or_none (Text t) = Some t
 text_or_none _ = None
 
 text_back : (o : Option (List ℕ)) → text_or_none (or_null o) ≡ o
-text_back None = refl
-text_back (Some t) = refl
+text_back o = search rules
 
 abbrev day_or_none : Value → Option ℤ
 day_or_none (Int z) = Some z
 day_or_none _ = None
 
 day_back : (o : Option ℤ) → day_or_none (day_or_null o) ≡ o
-day_back None = refl
-day_back (Some z) = refl
+day_back o = search rules
 
 abbrev status_in : Value → Option Status
 status_in (Text t) = status_worded t

@@ -1,5 +1,5 @@
 -- What holds of each statement, interest and identifier that a register has, by where it stands.
-use Rattle.std.proofs.Common.{◌≡◌, ℕ, ◌+◌, ◌≤◌, ◌<◌, ◌==◌, true, false, List, [], ◌∷◌, filter, Option, Some, None, ℤ, arith}
+use Rattle.std.proofs.Common.{◌≡◌, ℕ, ◌+◌, ◌≤◌, ◌<◌, ◌==◌, true, false, List, [], ◌∷◌, filter, Option, ℤ, arith, rules}
 use Rattle.std.specs.List.{AllByRecursion, flat_map}
 use Rattle.sqlite_keyed.proofs.ListLemmas.{all-append, all-flat_map, all_weaker, filter_none}
 use Rattle.bor_terms.specs.Texts.{is_below}
@@ -28,9 +28,7 @@ module _ (P : Placed → Type 0) where
   -- those of an agent's filings, which are numbered from a number on
   pub each_by : (agent : List ℕ) (n : ℕ) (fs : List AcceptedFiling) → AreNumbered n fs → ((filing place : ℕ) (s : Statement) → n ≤ filing → P (standing agent filing place s)) → AllByRecursion P (placed_by agent fs)
   each_by agent n [] up h = tt
-  each_by agent n (f ∷ fs) up h =
-      all-append P (placed_from agent f.number 1 f.statements) (placed_by agent fs) (each_from agent f.number 1 f.statements (λ place s low. h f.number place s (let e = up.0 in omega (arith, e))))
-      (each_by agent (n + 1) fs up.1 (λ filing place s low. h filing place s (omega (arith, low))))
+  each_by agent n (f ∷ fs) up h = search (rules, all-append, each_from, each_by agent (n + 1) fs)
 
   -- the same, whatever the numbers
   pub each_own : (agent : List ℕ) (fs : List AcceptedFiling) → ((filing place : ℕ) (s : Statement) → P (standing agent filing place s)) → AllByRecursion P (placed_by agent fs)
@@ -72,6 +70,4 @@ none_numbered number n fs low up = filter_none (λ (f : AcceptedFiling). f.numbe
 -- ---- the row of an interest's days
 
 pub all_said : (P : PeriodRow → Type 0) (p : PeriodRow) → P p → (starts ends : Option ℤ) → AllByRecursion P (if_said p starts ends)
-all_said P p h None None = tt
-all_said P p h None (Some end) = (h, tt)
-all_said P p h (Some start) ends = (h, tt)
+all_said P p h starts ends = search rules

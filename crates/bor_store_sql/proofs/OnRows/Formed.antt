@@ -1,11 +1,10 @@
 -- The rows of a stored register have their forms.
-use Rattle.std.proofs.Common.{◌≡◌, ℕ, ◌+◌, ◌<◌, ◌≤◌, ◌^◌, List, [], ◌∷◌, map, length, true, arith, All, flat_map}
+use Rattle.std.proofs.Common.{◌≡◌, ℕ, ◌+◌, ◌<◌, ◌≤◌, ◌^◌, List, [], ◌∷◌, map, length, true, arith, All, flat_map, rules}
 use Rattle.std.proofs.lemmas.List.Elements.{All-from_recursion, All-nil, All-cons, All-head, All-tail, All-append, All-map, All-weaker}
 use Rattle.bor_terms.specs.Texts.{is_agent_name}
 use Rattle.bods_read.specs.Forms.{IsFormedStatement, IsFormedDetails, IsFormedInterest, IsFormedIdentifier}
 use Rattle.bods_read.specs.declared.statement.Statement.{Statement}
 use Rattle.bods_read.specs.declared.details.Details.{Details}
-use Rattle.bods_read.specs.declared.details.Details.TheVariants as details
 use Rattle.bods_read.specs.declared.details.Identifier.{Identifier}
 use Rattle.bods_read.specs.declared.interest.Interest.{Interest}
 use Rattle.bor_register.specs.Register.{Register}
@@ -14,8 +13,8 @@ use Rattle.bor_register.specs.declared.filing.AcceptedFiling.{AcceptedFiling}
 use Rattle.bor_register.specs.declared.member.Member.{Member}
 use Rattle.bor_store_sql.specs.declared.rows.places.At.{At}
 use Rattle.bor_store_sql.specs.declared.rows.typed.Placed.{Placed}
-use Rattle.bor_store_sql.specs.Rows.Placed.{register_row, agent_row, filing_row, filing_lines, bare, interest_line, period_of, period_rows, part_of, interests_listed, identifiers_listed, interest_rows, identifier_rows, interests_from, identifiers_from, placed_from, placed_by, placed}
-use Rattle.bor_store_sql.specs.Rows.RowForms.{IsFormedRegisterRow, IsFormedAgentRow, IsFormedFilingRow, IsFormedAt, IsFormedPart, IsFormedStatementRow, IsFormedInterestLine, IsFormedPeriodRow, IsFormedInterestRow, IsFormedIdentifierRow, IsFormedPlaced}
+use Rattle.bor_store_sql.specs.Rows.Placed.{register_row, agent_row, filing_row, filing_lines, bare, interest_line, period_of, period_rows, interests_listed, identifiers_listed, interest_rows, identifier_rows, interests_from, identifiers_from, placed_from, placed_by, placed}
+use Rattle.bor_store_sql.specs.Rows.RowForms.{IsFormedRegisterRow, IsFormedAgentRow, IsFormedFilingRow, IsFormedAt, IsFormedStatementRow, IsFormedInterestLine, IsFormedPeriodRow, IsFormedInterestRow, IsFormedIdentifierRow, IsFormedPlaced}
 use Rattle.bor_store_sql.specs.declared.rows.typed.InterestRow.{InterestRow}
 use Rattle.bor_store_sql.specs.Rows.Stored.{IsCounted, AreCounted, IsStored}
 use Rattle.bor_store_sql.proofs.OnRows.Each.{all_said}
@@ -78,30 +77,14 @@ placed_formed r h = placed_all_formed r.members h.formed.members h.counted
 
 -- ---- the rows of a statement
 
-part_formed : (d : Details) → IsFormedDetails d → IsFormedPart (part_of d)
-part_formed (details.Entity kind name identifiers) h = h.name_is
-part_formed (details.Person kind name) h = h
-part_formed (details.Relationship subject party interests) h = (h.subject_is, h.party_is)
-
 interests_formed : (d : Details) → IsFormedDetails d → All IsFormedInterest (interests_listed d)
-interests_formed (details.Entity kind name identifiers) h = All-nil IsFormedInterest
-interests_formed (details.Person kind name) h = All-nil IsFormedInterest
-interests_formed (details.Relationship subject party interests) h = h.interests_are
+interests_formed d h = search rules
 
 identifiers_formed : (d : Details) → IsFormedDetails d → All IsFormedIdentifier (identifiers_listed d)
-identifiers_formed (details.Entity kind name identifiers) h = h.identifiers_are
-identifiers_formed (details.Person kind name) h = All-nil IsFormedIdentifier
-identifiers_formed (details.Relationship subject party interests) h = All-nil IsFormedIdentifier
+identifiers_formed d h = search rules
 
 pub bare_formed : (p : Placed) → IsFormedPlaced p → IsFormedStatementRow (bare p)
-bare_formed p h = record {
-  at = h.at;
-  id = h.statement.id;
-  day = h.statement.day;
-  declaration = h.statement.declaration;
-  rec = h.statement.rec;
-  part = part_formed p.statement.details h.statement.details;
-}
+bare_formed p h = search rules
 
 interests_from_formed : (at : At) → IsFormedAt at → (item : ℕ) (is : List Interest) → item + length is ≤ 2 ^ 32 → All IsFormedInterest is → All IsFormedInterestRow (interests_from at item is)
 interests_from_formed at here item [] room h = All-nil IsFormedInterestRow

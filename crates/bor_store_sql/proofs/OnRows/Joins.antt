@@ -1,9 +1,8 @@
 -- The rows of the statements that are left, and one statement more.
-use Rattle.std.proofs.Common.{◌≡◌, ℕ, ◌+◌, true, false, List, [], ◌∷◌, ◌++◌, map, append-nil, append_assoc, refl, sym, ap, ◌∙◌}
+use Rattle.std.proofs.Common.{◌≡◌, ℕ, ◌+◌, true, false, List, [], ◌∷◌, ◌++◌, map, append-nil, append_assoc, refl, sym, ap, ◌∙◌, rules}
 use Rattle.std.specs.List.{AllByRecursion, flat_map}
 use Rattle.bor_terms.proofs.Texts.{same_refl}
 use Rattle.bods_read.specs.declared.details.Details.{Details}
-use Rattle.bods_read.specs.declared.details.Details.TheVariants as details
 use Rattle.bods_read.specs.declared.details.Identifier.{Identifier}
 use Rattle.bods_read.specs.declared.interest.Interest.{Interest}
 use Rattle.bor_store_sql.specs.declared.rows.places.At.{At}
@@ -40,9 +39,7 @@ identifiers_back at item [] = refl
 identifiers_back at item (i ∷ is) = ap (λ l. i ∷ l) (identifiers_back at (item + 1) is)
 
 details_back : (d : Details) → details_with (part_of d) (interests_listed d) (identifiers_listed d) ≡ d
-details_back (details.Entity kind name identifiers) = refl
-details_back (details.Person kind name) = refl
-details_back (details.Relationship subject party interests) = refl
+details_back d = search rules
 
 -- the row and its lists are those of the statement
 pub back : (p : Placed) → with_lists (bare p) (map (λ (row : InterestRow). row.interest) (interest_rows p)) (map (λ (row : IdentifierRow). row.identifier) (identifier_rows p)) ≡ p

@@ -1,6 +1,6 @@
 -- Rows that are read one by one, and split.
 use Rattle.std.specs.List.{AllByRecursion}
-use Rattle.std.proofs.Common.{◌≡◌, ℕ, ◌+◌, ◌<◌, Bool, true, false, List, [], ◌∷◌, ◌++◌, length, drop, slice_index_or, map, append-nil, append_assoc, add-one, refl, sym, ap, ◌∙◌, zero, suc, get_or, true≢false, take, arith, drop-cons, All, slice_get, Some}
+use Rattle.std.proofs.Common.{◌≡◌, ℕ, ◌+◌, ◌<◌, Bool, true, false, List, [], ◌∷◌, ◌++◌, length, drop, slice_index_or, map, append-nil, append_assoc, add-one, refl, sym, ap, ◌∙◌, zero, suc, get_or, true≢false, take, arith, drop-cons, All, slice_get, Some, rules}
 use Rattle.std.proofs.lemmas.List.Elements.{All-head, All-tail}
 
 -- where there are no rows there are no values
@@ -67,6 +67,4 @@ stops q [] [] (suc i) all none so stop = (refl, refl)
 stops q [] (y ∷ more) zero all none so stop = (refl, refl)
 stops q [] (y ∷ more) (suc i) all none so stop = absurd (true≢false (sym so.0 ∙ none.0))
 stops q (x ∷ mine) more zero all none so stop = let it = stop (omega arith) in absurd (true≢false (sym all.0 ∙ ap q (sym it.1) ∙ it.2))
-stops q (x ∷ mine) more (suc i) all none so stop =
-    let rest = stops q mine more i all.1 none so.1 (λ lt. stop (omega (arith, lt))) in
-    (ap (λ l. x ∷ l) rest.0, rest.1)
+stops q (x ∷ mine) more (suc i) all none so stop = search (rules, stops q mine more i)

@@ -1,5 +1,5 @@
 -- Values are told by their rows: no two registers' members have the same rows.
-use Rattle.std.proofs.Common.{◌≡◌, ◌+◌, ◌==◌, ℕ, ℤ, Bool, true, false, true≢false, Option, Some, None, List, [], ◌∷◌, ◌++◌, map, refl, sym, ap, ap₂, subst, ◌∙◌, arith}
+use Rattle.std.proofs.Common.{◌≡◌, ◌+◌, ◌==◌, ℕ, ℤ, Bool, true, false, true≢false, Option, List, [], ◌∷◌, ◌++◌, map, refl, sym, ap, ap₂, subst, ◌∙◌, arith, rules}
 use Rattle.std.specs.List.{AllByRecursion, flat_map}
 use Rattle.sqlite_keyed.proofs.ListLemmas.{all-append, all-map}
 use Rattle.bor_terms.specs.Texts.{is_same}
@@ -7,21 +7,18 @@ use Rattle.bor_terms.proofs.Texts.{same_refl}
 use Rattle.bor_register.specs.Register.{AllAbove, IsOrdered}
 use Rattle.bor_register.specs.declared.filing.AcceptedFiling.{AcceptedFiling}
 use Rattle.bor_register.specs.declared.member.Member.{Member}
-use Rattle.bor_store_sql.specs.declared.rows.places.At.{At}
 use Rattle.bor_store_sql.specs.declared.rows.typed.AgentRow.{AgentRow}
 use Rattle.bor_store_sql.specs.declared.rows.typed.StatementRow.{StatementRow}
-use Rattle.bor_store_sql.specs.declared.rows.typed.InterestLine.{InterestLine}
 use Rattle.bor_store_sql.specs.declared.rows.typed.InterestRow.{InterestRow}
 use Rattle.bor_store_sql.specs.declared.rows.typed.PeriodRow.{PeriodRow}
 use Rattle.bor_store_sql.specs.declared.rows.typed.IdentifierRow.{IdentifierRow}
 use Rattle.bor_store_sql.specs.declared.rows.typed.Placed.{Placed}
-use Rattle.bor_store_sql.specs.Rows.Placed.{AreApart, AreSeveral, Misses, agent_row, bare, identifier_rows, identifiers_listed, if_said, interest_rows, interests_listed, interest_line, period_of, period_rows, placed, placed_by, placed_from, same_interest, same_place, with_lists}
+use Rattle.bor_store_sql.specs.Rows.Placed.{AreApart, AreSeveral, Misses, agent_row, bare, identifier_rows, identifiers_listed, if_said, interest_rows, interests_listed, interest_line, period_of, period_rows, placed, placed_by, placed_from, same_place, with_lists}
 use Rattle.bor_store_sql.specs.Rows.Stored.{AllNumbered, AreNumbered}
 use Rattle.bor_store_sql.proofs.OnRows.Decoded.{Filed, filed, without_statements}
-use Rattle.bor_store_sql.proofs.OnRows.Joins.{back, at_itself, identifiers_at, interests_at, no_identifiers_at, no_interests_at}
-use Rattle.bor_store_sql.proofs.OnRows.Numbers.{same_number}
+use Rattle.bor_store_sql.proofs.OnRows.Joins.{back, identifiers_at, interests_at, no_identifiers_at, no_interests_at}
 use Rattle.bor_store_sql.proofs.OnRows.Rebuilt.{above_statements, agent_by, differs, later_statements, statements_at, statements_back}
-use Rattle.bor_store_sql.proofs.OnRows.Timings.{all_missed, timed}
+use Rattle.bor_store_sql.proofs.OnRows.Timings.{all_missed}
 
 -- a list is split in one way into elements that pass a test and elements that fail it
 split_once : {X : Type 0} (q : X → Bool) (mine more own rest : List X) → mine ++ more ≡ own ++ rest → AllByRecursion (λ x. q x ≡ true) mine → AllByRecursion (λ x. q x ≡ false) more
@@ -29,55 +26,20 @@ split_once : {X : Type 0} (q : X → Bool) (mine more own rest : List X) → min
 split_once q [] more [] rest same all none all_too none_too = (refl, same)
 split_once q [] more (y ∷ own) rest same all none all_too none_too = absurd (true≢false (sym all_too.0 ∙ (subst (AllByRecursion (λ x. q x ≡ false)) same none).0))
 split_once q (x ∷ mine) more [] rest same all none all_too none_too = absurd (true≢false (sym all.0 ∙ (subst (AllByRecursion (λ x. q x ≡ false)) (sym same) none_too).0))
-split_once q (x ∷ mine) more (y ∷ own) rest same all none all_too none_too =
-    let here : x ≡ y = cc in
-    let there : mine ++ more ≡ own ++ rest = cc in
-    let it = split_once q mine more own rest there all.1 none all_too.1 none_too in
-    (ap₂ (λ z l. z ∷ l) here it.0, it.1)
+split_once q (x ∷ mine) more (y ∷ own) rest same all none all_too none_too = search (rules, split_once q mine more own rest)
 
 -- ---- interests, from their rows in two tables
-
-interest_itself : (at : At) (item : ℕ) → same_interest at item at item ≡ true
-interest_itself at item = rw (same_number item) (at_itself at)
-
--- an interest of this line has a row among periods that miss it
-missed : (i j : InterestRow) (row : PeriodRow) (rows more : List PeriodRow) → interest_line i ≡ interest_line j → row.at ≡ i.at → row.item ≡ i.item → rows ≡ row ∷ more → Misses j rows → ⊥
-missed i j row rows more same at item first misses =
-    let place : row.at ≡ j.at = at ∙ ap (λ (l : InterestLine). l.at) same in
-    let number : row.item ≡ j.item = item ∙ ap (λ (l : InterestLine). l.item) same in
-    let not_it : same_interest row.at row.item j.at j.item ≡ false = (subst (Misses j) first misses).0 in
-    true≢false (sym (interest_itself j.at j.item) ∙ sym (ap₂ (λ a n. same_interest a n j.at j.item) place number) ∙ not_it)
-
--- the same first row has the same days
-same_first : (p q : PeriodRow) (more rest : List PeriodRow) → p ∷ more ≡ q ∷ rest → (p.starts ≡ q.starts) × (p.ends ≡ q.ends) × (more ≡ rest)
-same_first p q more rest same =
-    let one : p ≡ q = cc in
-    let tail : more ≡ rest = cc in
-    (ap (λ (r : PeriodRow). r.starts) one, ap (λ (r : PeriodRow). r.ends) one, tail)
 
 -- where lines are the same, so are days, and the rows of the other interests
 same_days : (i j : InterestRow) (starts ends then till : Option ℤ) (more rest : List PeriodRow) → interest_line i ≡ interest_line j → Misses i more → Misses j rest
     → if_said (record (period_of i) { starts = starts; ends = ends }) starts ends ++ more ≡ if_said (record (period_of j) { starts = then; ends = till }) then till ++ rest → (starts ≡ then) × (ends ≡ till) × (more ≡ rest)
-same_days i j None None None None more rest line b d same = (refl, refl, same)
-same_days i j None None None (Some e) more rest line b d same = absurd (missed j i (record (period_of j) { starts = None; ends = Some e }) more rest (sym line) refl refl same b)
-same_days i j None None (Some s) till more rest line b d same = absurd (missed j i (record (period_of j) { starts = Some s; ends = till }) more rest (sym line) refl refl same b)
-same_days i j None (Some e) None None more rest line b d same = absurd (missed i j (record (period_of i) { starts = None; ends = Some e }) rest more line refl refl (sym same) d)
-same_days i j (Some s) ends None None more rest line b d same = absurd (missed i j (record (period_of i) { starts = Some s; ends = ends }) rest more line refl refl (sym same) d)
-same_days i j None (Some e) None (Some f) more rest line b d same = same_first (record (period_of i) { starts = None; ends = Some e }) (record (period_of j) { starts = None; ends = Some f }) more rest same
-same_days i j None (Some e) (Some s) till more rest line b d same = same_first (record (period_of i) { starts = None; ends = Some e }) (record (period_of j) { starts = Some s; ends = till }) more rest same
-same_days i j (Some s) ends None (Some f) more rest line b d same = same_first (record (period_of i) { starts = Some s; ends = ends }) (record (period_of j) { starts = None; ends = Some f }) more rest same
-same_days i j (Some s) ends (Some t) till more rest line b d same = same_first (record (period_of i) { starts = Some s; ends = ends }) (record (period_of j) { starts = Some t; ends = till }) more rest same
+same_days i j starts ends then till more rest line b d same = search rules
 
 pub same_timed : (is js : List InterestRow) → AreSeveral is → AreSeveral js → map interest_line is ≡ map interest_line js → flat_map period_rows is ≡ flat_map period_rows js → is ≡ js
 same_timed [] [] a b lines periods = refl
 same_timed [] (j ∷ js) a b lines periods = absurd cc
 same_timed (i ∷ is) [] a b lines periods = absurd cc
-same_timed (i ∷ is) (j ∷ js) a b lines periods =
-    let line : interest_line i ≡ interest_line j = cc in
-    let others : map interest_line is ≡ map interest_line js = cc in
-    let days = same_days i j i.interest.starts i.interest.ends j.interest.starts j.interest.ends (flat_map period_rows is) (flat_map period_rows js) line (all_missed i is a.0) (all_missed j js b.0) periods in
-    let one : i ≡ j = (λ k. timed (line k) (days.0 k) (days.1 k)) in
-    ap₂ (λ x l. x ∷ l) one (same_timed is js a.1 b.1 others days.2)
+same_timed (i ∷ is) (j ∷ js) a b lines periods = search (rules, same_days, all_missed, same_timed is js)
 
 -- ---- statements, from their rows in four tables
 
@@ -129,9 +91,7 @@ filed_at agent fs = all-map (λ (o : Filed). is_same o.agent agent ≡ true) (fi
 
 above_filed : (agent : List ℕ) (ms : List Member) → AllAbove agent ms → AllByRecursion (λ (o : Filed). is_same o.agent agent ≡ false) (all_filed ms)
 above_filed agent [] h = tt
-above_filed agent (m ∷ ms) h =
-    all-append (λ (o : Filed). is_same o.agent agent ≡ false) (map (filed m.name) m.filings) (all_filed ms)
-    (all-map (λ (o : Filed). is_same o.agent agent ≡ false) (filed m.name) (λ f. differs agent m.name h.0) m.filings) (above_filed agent ms h.1)
+above_filed agent (m ∷ ms) h = search (rules, all-append, all-map, differs, above_filed agent ms)
 
 pub same_members : (ms ns : List Member) → IsOrdered ms → IsOrdered ns → AllNumbered ms → AllNumbered ns → map agent_row ms ≡ map agent_row ns → all_filed ms ≡ all_filed ns → placed ms ≡ placed ns → ms ≡ ns
 same_members [] [] up up_too a b rows fs ps = refl

@@ -1,5 +1,5 @@
 -- Filings, members and the registrar's lines of agents from rows, one after the other.
-use Rattle.std.proofs.Common.{◌≡◌, ℕ, ◌+◌, ◌<◌, ◌==◌, true, false, List, [], ◌∷◌, ◌++◌, map, append-nil, append_assoc, refl, sym, ap, ◌∙◌, arith, ℤ, suc, cond, filter, length}
+use Rattle.std.proofs.Common.{◌≡◌, ℕ, ◌+◌, ◌<◌, ◌==◌, true, false, List, [], ◌∷◌, ◌++◌, map, append-nil, append_assoc, refl, sym, ap, ◌∙◌, arith, ℤ, filter, length, rules}
 use Rattle.std.specs.List.{AllByRecursion}
 use Rattle.sqlite_keyed.proofs.ListLemmas.{all-append, all-map}
 use Rattle.bor_terms.specs.Texts.{is_same, is_below}
@@ -17,7 +17,7 @@ use Rattle.bor_store_sql.specs.Rows.Stored.{AreNumbered, AllNumbered}
 use Rattle.bor_store_sql.proofs.OnRows.Numbers.{same_number, other_number}
 use Rattle.bor_store_sql.proofs.OnRows.Each.{each_above, each_by, each_from, each_own}
 use Rattle.bor_store_sql.proofs.OnRows.Lists.{Splits, no_values}
-use Rattle.bor_register.specs.Publication.{agent_line, is_published, published_count}
+use Rattle.bor_register.specs.Publication.{agent_line, published_count}
 use Rattle.bor_register.specs.declared.agents.AgentLine.{AgentLine}
 use Rattle.bor_store_sql.specs.Rows.Seen.{is_line_published}
 
@@ -93,9 +93,7 @@ differs agent other h = same_sym other agent ∙ below_differs agent other h
 
 pub above_filings : (agent : List ℕ) (ms : List Member) → AllAbove agent ms → AllByRecursion (λ (row : FilingRow). is_same row.agent agent ≡ false) (filing_lines ms)
 above_filings agent [] h = tt
-above_filings agent (m ∷ ms) h =
-    all-append (λ (row : FilingRow). is_same row.agent agent ≡ false) (map (filing_row m.name) m.filings) (filing_lines ms)
-    (all-map (λ (row : FilingRow). is_same row.agent agent ≡ false) (filing_row m.name) (λ f. differs agent m.name h.0) m.filings) (above_filings agent ms h.1)
+above_filings agent (m ∷ ms) h = search (rules, all-append, all-map, differs, above_filings agent ms)
 
 pub above_statements : (agent : List ℕ) (ms : List Member) → AllAbove agent ms → AllByRecursion (λ (p : Placed). is_same p.at.agent agent ≡ false) (placed ms)
 above_statements agent ms h = each_above (λ p. is_same p.at.agent agent ≡ false) agent ms h (λ other filing place s below. differs agent other below)
@@ -146,12 +144,7 @@ all_members all out filings statements l = sym (append-nil out) ∙ ap (λ ms. o
 -- as many rows are published as filings
 count_is : (day : ℤ) (agent : List ℕ) (fs : List AcceptedFiling) → length (filter (is_line_published day) (map (filing_row agent) fs)) ≡ published_count day fs
 count_is day agent [] = refl
-count_is day agent (f ∷ fs) =
-    let rest = filter (is_line_published day) (map (filing_row agent) fs) in
-    elim (is_published day f) as (λ b. length (cond b (filing_row agent f ∷ rest) rest) ≡ length (cond b (f ∷ filter (is_published day) fs) (filter (is_published day) fs))) [
-      | true ↦ ap (λ n. suc n) (count_is day agent fs)
-      | false ↦ count_is day agent fs
-    ]
+count_is day agent (f ∷ fs) = search (rules, count_is day agent fs)
 
 -- the lines of some members are made, and the rows are those of the others
 pub record LinesLeft (day : ℤ) (all : List Member) (out : List AgentLine) (rows : List AgentRow) (filings : List FilingRow) : Type 0 where

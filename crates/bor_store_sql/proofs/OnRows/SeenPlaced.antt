@@ -1,5 +1,5 @@
 -- The rows of an agent that a viewer sees are those that it sees statement by statement.
-use Rattle.std.proofs.Common.{◌≡◌, ℕ, ℤ, ◌+◌, ◌<◌, ◌==◌, Bool, true, false, ◌&&◌, List, [], ◌∷◌, ◌++◌, map, refl, sym, ap, ap₂, ◌∙◌, arith, if◌then◌else◌, filter}
+use Rattle.std.proofs.Common.{◌≡◌, ℕ, ℤ, ◌+◌, ◌<◌, ◌==◌, Bool, true, false, ◌&&◌, List, [], ◌∷◌, ◌++◌, map, refl, sym, ap, ap₂, ◌∙◌, arith, if◌then◌else◌, filter, rules}
 use Rattle.std.specs.List.{AllByRecursion, list_any}
 use Rattle.std.proofs.Math.Bool.{or-false}
 use Rattle.std.proofs.lemmas.List.{map-append}
@@ -7,9 +7,8 @@ use Rattle.std.proofs.lemmas.List.Elements.{filter-append}
 use Rattle.sqlite_keyed.proofs.ListLemmas.{filter-map, filter_all, filter_none}
 pub use Rattle.sqlite_trees.proofs.ListLemmas.{filter_same}
 pub use Rattle.bor_register.proofs.OnMemory.Lists.{filters_swap}
-use Rattle.bor_terms.specs.Texts.{is_same}
 use Rattle.bods_read.specs.declared.statement.Statement.{Statement}
-use Rattle.bor_register.specs.Rows.{row_of, rows_from, rows_in, rows_of, of_declaration, is_visible}
+use Rattle.bor_register.specs.Rows.{row_of, rows_from, rows_in, rows_of, is_visible}
 use Rattle.bor_register.specs.declared.filing.AcceptedFiling.{AcceptedFiling}
 use Rattle.bor_store_sql.specs.declared.rows.typed.Placed.{Placed}
 use Rattle.bor_store_sql.specs.Rows.Placed.{placed_from, placed_by}
@@ -24,9 +23,7 @@ rows_from-placed agent number place (s ∷ ss) = ap (λ l. row_of agent number p
 
 pub rows_in-placed : (agent : List ℕ) (fs : List AcceptedFiling) → rows_in agent fs ≡ map row_placed (placed_by agent fs)
 rows_in-placed agent [] = refl
-rows_in-placed agent (f ∷ fs) =
-    ap₂ (λ xs ys. xs ++ ys) (rows_from-placed agent f.number 1 f.statements) (rows_in-placed agent fs)
-    ∙ sym (map-append row_placed (placed_from agent f.number 1 f.statements) (placed_by agent fs))
+rows_in-placed agent (f ∷ fs) = search (rules, rows_from-placed, map-append, rows_in-placed agent fs)
 
 module _ (viewer : List ℕ) (day : ℤ) (agent : List ℕ) where
   -- no later filing has the number
@@ -66,7 +63,4 @@ module _ (viewer : List ℕ) (day : ℤ) (agent : List ℕ) where
   -- the rows of a declaration that the viewer sees, from the declaration's statements
   pub rows_of-placed : (declaration : List ℕ) (n : ℕ) (fs : List AcceptedFiling) → AreNumbered n fs
       → rows_of viewer day agent declaration fs ≡ map row_placed (filter (is_seen viewer day agent fs) (filter (is_of_declaration declaration) (placed_by agent fs)))
-  rows_of-placed declaration n fs numbered =
-      ap (of_declaration declaration) (rows_in-placed agent (filter (is_visible viewer day agent) fs) ∙ ap (map row_placed) (visible_placed n fs numbered))
-      ∙ filter-map (λ row. is_same row.statement.declaration declaration) row_placed (filter (is_seen viewer day agent fs) (placed_by agent fs))
-      ∙ ap (map row_placed) (filters_swap (is_of_declaration declaration) (is_seen viewer day agent fs) (placed_by agent fs))
+  rows_of-placed declaration n fs numbered = search (rules, rows_in-placed, visible_placed, filter-map, filters_swap)

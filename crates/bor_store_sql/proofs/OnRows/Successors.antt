@@ -1,7 +1,6 @@
 -- A filing has a successor where the last statement of one of its records stands in a later filing.
-use Rattle.std.proofs.Common.{◌≡◌, ℕ, ◌+◌, ◌<◌, ◌≤◌, ◌==◌, Bool, true, false, ◌&&◌, ◌||◌, List, [], ◌∷◌, ◌++◌, append-nil, Option, Some, None, inl, inr, refl, sym, ap, ap₂, ◌∙◌, arith, if◌then◌else◌, filter, nat_lt}
+use Rattle.std.proofs.Common.{◌≡◌, ℕ, ◌+◌, ◌<◌, ◌≤◌, ◌==◌, Bool, true, false, ◌&&◌, ◌||◌, List, [], ◌∷◌, ◌++◌, append-nil, Option, Some, None, refl, sym, ap, ap₂, ◌∙◌, arith, if◌then◌else◌, filter, nat_lt, rules, eqb-true, le-ltb, lt-ltb}
 use Rattle.std.specs.List.{list_any, last_or}
-use Rattle.std.proofs.lemmas.Bool.{cases_Bool, eqb-true, le-ltb, lt-ltb, ltb-true}
 use Rattle.std.proofs.Math.Bool.{and-true, and-false, or-false, or_assoc}
 use Rattle.std.proofs.lemmas.Bool.Decides.{nat_tests}
 use Rattle.std.proofs.lemmas.List.Elements.{filter-append}
@@ -36,10 +35,7 @@ all_after number p agent filing place (s ∷ ss) e = rw (e, all_after number p a
 later_after : (number : ℕ) (p : Placed) (agent : List ℕ) (n : ℕ) (gs : List AcceptedFiling) → number < n → AreNumbered n gs
     → list_any (after number p) (placed_by agent gs) ≡ list_any (λ (g : AcceptedFiling). list_any (is_of p.statement.declaration p.statement.rec) g.statements) gs
 later_after number p agent n [] low numbered = refl
-later_after number p agent n (g ∷ gs) low numbered =
-    list_any-append (after number p) (placed_from agent g.number 1 g.statements) (placed_by agent gs)
-    ∙ ap₂ (λ a b. a || b) (all_after number p agent g.number 1 g.statements (lt-ltb number g.number (let is = numbered.0 in omega (arith, is))))
-    (later_after number p agent (n + 1) gs (omega arith) numbered.1)
+later_after number p agent n (g ∷ gs) low numbered = search (rules, list_any-append, all_after, lt-ltb, later_after number p agent (n + 1) gs)
 
 -- ---- the statements of a filing
 
@@ -98,14 +94,7 @@ other_succeeded agent number f fs n low numbered e = go (nat_lt number f.number)
 
 successor_any : (agent : List ℕ) (number n : ℕ) (fs : List AcceptedFiling) → AreNumbered n fs → has_successor number fs ≡ succeeded agent number fs
 successor_any agent number n [] numbered = refl
-successor_any agent number n (f ∷ fs) numbered =
-    let low : f.number < n + 1 = let is = numbered.0 in omega (arith, is) in
-    go (f.number == number) refl (own_succeeded agent f fs (n + 1) low numbered.1) (other_succeeded agent number f fs (n + 1) low numbered.1) (successor_any agent number (n + 1) fs numbered.1)
-  where
-    go : (b : Bool) → (f.number == number) ≡ b → list_any (shares_record f) fs ≡ succeeded agent f.number (f ∷ fs) → ((f.number == number) ≡ false → succeeded agent number fs ≡ succeeded agent number (f ∷ fs))
-        → has_successor number fs ≡ succeeded agent number fs → (if b then list_any (shares_record f) fs else has_successor number fs) ≡ succeeded agent number (f ∷ fs)
-    go true e own other rest = own ∙ ap (λ m. succeeded agent m (f ∷ fs)) (is_number f.number number e)
-    go false e own other rest = rest ∙ other e
+successor_any agent number n (f ∷ fs) numbered = search (rules, own_succeeded, other_succeeded, is_number, successor_any agent number (n + 1) fs)
 
 -- ---- by the last statement
 
@@ -123,22 +112,17 @@ rises_from agent filing place (s ∷ ss) ps h = (omega arith, rises_from agent f
 
 rises_by : (agent : List ℕ) (n : ℕ) (fs : List AcceptedFiling) → AreNumbered n fs → Rises n (placed_by agent fs)
 rises_by agent n [] numbered = tt
-rises_by agent n (f ∷ fs) numbered =
-    rises_on f.number n (placed_from agent f.number 1 f.statements ++ placed_by agent fs) (let is = numbered.0 in omega (arith, is))
-    (rises_from agent f.number 1 f.statements (placed_by agent fs) (rises_on (n + 1) f.number (placed_by agent fs) (let is = numbered.0 in omega (arith, is)) (rises_by agent (n + 1) fs numbered.1)))
+rises_by agent n (f ∷ fs) numbered = search (rules, rises_on, rises_from, rises_by agent (n + 1) fs)
 
 abbrev IsWithin : ℕ → Option Placed → Type 0
 IsWithin low None = Unit {0}
 IsWithin low (Some p) = p.at.filing ≤ low
 
 within_on : (low low2 : ℕ) (o : Option Placed) → low ≤ low2 → IsWithin low o → IsWithin low2 o
-within_on low low2 None le h = tt
-within_on low low2 (Some p) le h = omega (arith, h)
+within_on low low2 o le h = search rules
 
 later_or : (number : ℕ) (o : Option Placed) (m : ℕ) → IsWithin m o → (is_later number o || nat_lt number m) ≡ nat_lt number m
-later_or number None m h = refl
-later_or number (Some p) m h =
-    elim (cases_Bool (nat_lt number p.at.filing)) [ inl e ↦ rw (e, lt-ltb number m (let low = ltb-true number p.at.filing e in omega (arith, low, h))) refl | inr e ↦ rw e refl ]
+later_or number o m h = search rules
 
 last_later : (number : ℕ) (q : Placed → Bool) (o : Option Placed) (low : ℕ) (ps : List Placed) → Rises low ps → IsWithin low o
     → is_later number (last_or o (filter q ps)) ≡ (is_later number o || list_any (λ (p : Placed). q p && nat_lt number p.at.filing) ps)

@@ -1,5 +1,5 @@
 -- Interests to which their days are put, one by one.
-use Rattle.std.proofs.Common.{◌≡◌, ◌+◌, ◌==◌, ℕ, ℤ, false, Option, List, [], ◌∷◌, ◌++◌, map, append-nil, append_assoc, refl, sym, ap, ◌∙◌, arith}
+use Rattle.std.proofs.Common.{◌≡◌, ◌+◌, ◌==◌, ℕ, ℤ, false, Option, List, [], ◌∷◌, ◌++◌, map, append-nil, append_assoc, refl, sym, ap, ◌∙◌, arith, rules}
 use Rattle.std.specs.List.{AllByRecursion, flat_map}
 use Rattle.sqlite_keyed.proofs.ListLemmas.{all-append, all-flat_map, all_weaker}
 use Rattle.bor_store_sql.specs.declared.rows.typed.InterestLine.{InterestLine}
@@ -19,8 +19,7 @@ one_missed : (i j : InterestRow) → same_interest j.at j.item i.at i.item ≡ f
 one_missed i j e = all_said (λ (p : PeriodRow). same_interest p.at p.item i.at i.item ≡ false) (period_of j) e j.interest.starts j.interest.ends
 
 pub all_missed : (i : InterestRow) (is : List InterestRow) → AllByRecursion (λ (j : InterestRow). same_interest j.at j.item i.at i.item ≡ false) is → Misses i (flat_map period_rows is)
-all_missed i is h =
-    all-flat_map (λ (p : PeriodRow). same_interest p.at p.item i.at i.item ≡ false) period_rows is (all_weaker (λ (j : InterestRow). same_interest j.at j.item i.at i.item ≡ false) (λ j. Misses i (period_rows j)) (one_missed i) is h)
+all_missed i is h = search (rules, all-flat_map, all_weaker, one_missed)
 
 -- some interests are made of all, and the rows of both tables are those of the others
 pub record Left (all out : List InterestRow) (lines : List InterestLine) (periods : List PeriodRow) : Type 0 where

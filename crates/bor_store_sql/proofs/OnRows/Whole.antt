@@ -1,11 +1,10 @@
 -- A row is its columns, where there are as many, and the low end of a share.
-use Rattle.std.proofs.Common.{◌≡◌, ℕ, ◌+◌, [], ◌∷◌, length, drop, Option, Some, None, refl, ap, ◌∙◌, arith, ◌≤◌, Bool, true}
+use Rattle.std.proofs.Common.{◌≡◌, ℕ, ◌+◌, [], ◌∷◌, length, drop, Option, ap, ◌∙◌, arith, ◌≤◌, Bool, true, rules}
 use Rattle.std.proofs.lemmas.List.{drop_all}
 use Rattle.sqlite.specs.declared.types.Value.TheVariants.{Null}
 use Rattle.sqlite.specs.Order.{Row, column}
 use Rattle.bor_terms.specs.Span.{Range}
 use Rattle.bor_store_sql.specs.declared.rows.typed.Part.{Part}
-use Rattle.bor_store_sql.specs.declared.rows.typed.Part.TheVariants as part
 use Rattle.bor_store_sql.specs.Rows.Encoding.{part_columns, share_columns}
 use Rattle.bor_store_sql.specs.Rows.Reading.{HasFour}
 use Rattle.bor_store_sql.proofs.OnRows.Lists.{next_row}
@@ -29,22 +28,16 @@ is_whole row vs long h = from_on 0 row vs (omega (arith, long)) h
 -- ---- the last four columns
 
 pub part_long : (p : Part) → length (part_columns p) ≡ 4
-part_long (part.Entity kind name) = refl
-part_long (part.Person kind name) = refl
-part_long (part.Relationship subject party) = refl
+part_long p = search rules
 
 pub part_from : (row : Row) (p : Part) → HasFour row 9 (part_columns p) → HasFrom 9 row (part_columns p)
-part_from row (part.Entity kind name) h = (h.0, (h.1, (h.2, (h.3, tt))))
-part_from row (part.Person kind name) h = (h.0, (h.1, (h.2, (h.3, tt))))
-part_from row (part.Relationship subject party) h = (h.0, (h.1, (h.2, (h.3, tt))))
+part_from row p h = search rules
 
 pub share_long : (o : Option Range) → length (share_columns o) ≡ 4
-share_long None = refl
-share_long (Some s) = refl
+share_long o = search rules
 
 pub share_from : (row : Row) (o : Option Range) → HasFour row 6 (share_columns o) → HasFrom 6 row (share_columns o)
-share_from row None h = (h.0, (h.1, (h.2, (h.3, tt))))
-share_from row (Some s) h = (h.0, (h.1, (h.2, (h.3, tt))))
+share_from row o h = search rules
 
 -- ---- the low end of a share
 

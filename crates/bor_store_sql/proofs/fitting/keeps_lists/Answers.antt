@@ -1,4 +1,4 @@
-use Rattle.std.proofs.Common.{◌≡◌, List, map, sym, subst}
+use Rattle.std.proofs.Common.{◌≡◌, List, map, rules}
 use Rattle.bods_read.specs.declared.details.Identifier.{Identifier}
 use Rattle.bods_read.specs.declared.interest.Interest.{Interest}
 use Rattle.bor_register.specs.Register.{Register}
@@ -16,13 +16,4 @@ abbrev HasIdentifiers : At → Register → List Identifier → Type 0
 HasIdentifiers at r xs = map identifier_columns (identifiers_from at 1 xs) ≡ map identifier_columns (identifiers_at at r.members)
 
 pub returns : goal.returns
-returns g c =
-    let at : At = c.args.at.now in
-    let first = c.in_ok-keeps_interests.ensures in
-    told_after _ _ first.reads _ c.keeps_identifiers.result c.keeps_identifiers.ensures (λ clean r shows. (
-      λ ids. record {
-        interests = subst (HasInterests at r) c.interests.ensures ((first.told clean r shows).0 c.if-not-branch.false);
-        identifiers = subst (HasIdentifiers at r) c.identifiers.ensures ids;
-      },
-      λ h. subst (HasIdentifiers at r) (sym c.identifiers.ensures) h.identifiers,
-    ))
+returns g c = search (rules, told_after)

@@ -1,4 +1,4 @@
-use Rattle.std.proofs.Common.{◌≡◌, ◌∷◌, [], length, refl, sym, ap, ◌∙◌, arith}
+use Rattle.std.proofs.Common.{◌≡◌, ◌∷◌, [], length, refl, ap, arith, rules}
 use Rattle.std.specs.Vec.Iter.{into_iter_items}
 use Rattle.std.proofs.lemmas.List.{nil_from_length}
 use Rattle.bor_store_sql.proofs.OnRows.Timings.{one_more, none_left}
@@ -16,6 +16,4 @@ loop-line-preserved c =
     )
 
 pub returns : goal.returns
-returns c is several lines periods =
-    let none : into_iter_items c.loop-line.line-iterator ≡ [] = nil_from_length _ (sym c.loop-line.invariant.0 ∙ c.in-None.ensures.steps.0) in
-    none_left is c.loop-line.rows.items _ _ (c.loop-line.invariant.1 is several lines periods) none
+returns c is several lines periods = search (rules, nil_from_length, none_left)
