@@ -1,130 +1,76 @@
--- Maps beside lists.
-use Rattle.std.proofs.Common.{ℤ, ◌≡◌, ◌⊎◌, ◌+◌, ◌<◌, ◌≤◌, ◌&&◌, ℕ, zero, suc, Bool, true, false, cond, Option, Some, None, IsSome, option_map, Result, Ok, Err, IfOk, List, map, ◌∷◌, drop, length, get_or, Contains, [], ◌++◌, nat_eq, sym, refl, ap, subst, inl, inr, arith, ◌∙◌, Bor, Vec, Global}
-use Rattle.std.specs.Prelude.{nat_lt}
+-- Maps beside lists, and listed entities by their signs.
+use Rattle.std.proofs.Common.{ℤ, ◌≡◌, ◌⊎◌, ◌+◌, ◌<◌, ℕ, zero, suc, Bool, true, false, cond, Option, Some, None, IsSome, option_map, List, map, ◌∷◌, drop, length, get_or, Contains, [], ◌++◌, nat_eq, sym, refl, ap, subst, inl, inr, arith, ◌∙◌, Bor, Vec, Global, take}
 use Rattle.std.specs.List.{slice_get, filter_map, list_any, IsDistinct, AllByRecursion}
 use Rattle.std.specs.Cmp.{nat_eq_equiv}
 use Rattle.std.specs.Ordering.{is_eq}
-use Rattle.std.proofs.Math.ListN.{set, length-set}
-use Rattle.std.proofs.lemmas.List.{drop_more, get_or-set_same, get_or-set_other}
-use Rattle.std.proofs.lemmas.List.Elements.{Contains-push, Contains-push_cases, Contains-append_left}
-use Rattle.std.proofs.lemmas.Option.{same_Some, slice_get-get_or, slice_get_past, slice_get_within, slice_get_cases, get_or_from_slice_get}
+use Rattle.std.proofs.Math.ListN.{set}
+use Rattle.std.proofs.lemmas.List.{drop_more}
+use Rattle.std.proofs.lemmas.List.Elements.{Contains-push, Contains-push_cases, Contains-append_left, All-from_recursion, All-contains}
+use Rattle.std.proofs.lemmas.Option.{same_Some, slice_get-get_or, slice_get_within, slice_get_cases, get_or_from_slice_get, slice_get_read}
 use Rattle.std.proofs.lemmas.Map.Keys.{IsDistinct-push}
-use Rattle.std.proofs.lemmas.Bool.{and_parts, eqb-true, eqb-false, ltb-true, ltb-false}
-use Rattle.bods_read.specs.declared.details.Details.{Details}
-use Rattle.bods_read.specs.declared.details.Details.TheVariants as details
-use Rattle.bods_read.specs.declared.interest.Interest.{Interest}
+use Rattle.std.proofs.lemmas.Bool.{eqb-true, eqb-false, cases_eq, false_from_ne_true}
 use Rattle.bor_records.specs.declared.row.Row.{Row}
 use Rattle.bor_records.specs.declared.links.node.Node.{Node}
 use Rattle.bor_records.specs.declared.links.node.Link.{Link}
 use Rattle.bor_records.specs.declared.links.node.OpenNode.{OpenNode}
 use Rattle.bor_records.specs.Links.Nodes.{same_node, node_cmp, link_record}
 use Rattle.bor_records.specs.Links.Orders.{node_equiv, node_ties}
-use Rattle.bor_records.specs.Links.Shown.{Shown, listed_at, info_in}
-use Rattle.bor_records.specs.Links.Stakes.{is_stake, is_holding}
-use Rattle.bor_records.specs.Links.Rows.{is_entity_info, is_some_info, link_in, link_with}
-use Rattle.bor_records.specs.Links.Answers.{AreLinksInto, only_into}
-use Rattle.bor_records.specs.Links.Candidates.{beside}
-use Rattle.bor_chains.specs.Tables.{node_at_place, items_of, items_at, GrowAt, ArePlaces, AreInto, IsBelow, links_at}
-use Rattle.bor_records.proofs.OnLinks.Found.{none, Contains-filter_map, Contains-from_filter_map}
+use Rattle.bor_records.specs.Links.Shown.{Shown, listed_at}
+use Rattle.bor_records.specs.Links.Rows.{link_in, link_stated, between_open}
+use Rattle.bor_records.specs.Links.Answers.{AreLinksInto, only_into, HaveSigned}
+use Rattle.bor_records.specs.Links.Series.{series_of}
+use Rattle.bor_records.proofs.OnLinks.Found.{none, Contains-filter_map, Contains-from_filter_map, Contains-map}
 use Rattle.bor_records.proofs.OnLinks.Once.{made_distinct}
 use Rattle.bor_records.proofs.OnLinks.SameNode.{same_node_is}
 use Rattle.bor_records.proofs.OnLinks.Signs.{same_any}
+use Rattle.bor_records.specs.declared.links.sign.Sign.{Sign}
+use Rattle.bor_records.specs.Links.Signs.{HasSign}
+use Rattle.bor_records.proofs.OnLinks.Growth.{Contains-take_more}
+use Rattle.bor_records.proofs.OnLinks.Listed.{found_is}
+use Rattle.bor_chains.specs.Tables.{node_at_place, items_of, items_at, GrowAt, ArePlaces, AreInto, IsBelow, links_at}
+use Rattle.bor_chains.proofs.Places.{got_is, set_there, set_other, up_to}
+use Rattle.bor_chains.specs.Likeness.{Stays, AreUnder}
 
 -- what is told of a place is the link there, with the subject
 link_is : (n : Node) (o : Option Link) (l : Link) → only_into n o ≡ Some l → (o ≡ Some l) × (same_node l.subject n ≡ true)
-link_is n None l e = let z : None ≡ Some l = e in absurd cc
-link_is n (Some k) l e = at (same_node k.subject n) refl e
-  where
-    at : (t : Bool) → same_node k.subject n ≡ t → cond t (Some k) None ≡ Some l → (Some k ≡ Some l) × (same_node l.subject n ≡ true)
-    at true f q = (q, ap (λ (m : Link). same_node m.subject n) (sym (same_Some k l q)) ∙ f)
-    at false f q = let z : None ≡ Some l = q in absurd cc
+link_is n o l e = grind arith
 
 -- a link is made where its subject is listed
 subject_listed : (day : ℤ) (nodes : List OpenNode) (r : Row) (l : Link) → link_in day nodes r ≡ Some l → IsSome (listed_at nodes l.subject)
-subject_listed day nodes r l h = by r.statement.details h
-  where
-    no_link : None ≡ Some l → IsSome (listed_at nodes l.subject)
-    no_link e = absurd cc
-
-    entity : (o : Option OpenNode) → is_entity_info (option_map (λ x. x.info) o) ≡ true → IsSome o
-    entity None e = absurd cc
-    entity (Some x) e = refl
-
-    between : (subject party : Node) (interests : List Interest) (t : Bool) → (is_entity_info (info_in nodes subject) && is_some_info (info_in nodes party)) ≡ t
-        → cond t (Some (record { rec = r.statement.rec; party = party; subject = subject; stake = is_stake day interests; holding = is_holding day interests })) None ≡ Some l → IsSome (listed_at nodes l.subject)
-    between subject party interests true f e =
-        subst (λ (m : Node). IsSome (listed_at nodes m)) (ap (λ (k : Link). k.subject) (same_Some _ l e))
-        (entity (listed_at nodes subject) (and_parts (is_entity_info (info_in nodes subject)) (is_some_info (info_in nodes party)) f).0)
-    between subject party interests false f e = no_link e
-
-    by : (d : Details) → link_with day nodes r d ≡ Some l → IsSome (listed_at nodes l.subject)
-    by (details.Entity kind name identifiers) e = no_link e
-    by (details.Person kind name) e = no_link e
-    by (details.Relationship None party interests) e = no_link e
-    by (details.Relationship (Some subject) None interests) e = no_link e
-    by (details.Relationship (Some subject) (Some party) interests) e =
-        between (beside r subject) (beside r party) interests (is_entity_info (info_in nodes (beside r subject)) && is_some_info (info_in nodes (beside r party))) refl e
+subject_listed day nodes r l h =
+    let made : between_open nodes (link_stated day (series_of r) r.statement.details) ≡ Some l = h in
+    grind (arith, made)
 
 -- a node before those that have a place
 pub places_before : (nodes : List OpenNode) (next k : ℕ) (x : OpenNode) (key : Node) (was now : Node → Option ℕ) → k + 1 ≡ next → k < length nodes → x ≡ get_or nodes k x → key ≡ x.node
     → ((q : Node) → node_at_place nodes (was q) ≡ listed_at (drop next nodes) q) → ((q : Node) → now q ≡ cond (is_eq (node_cmp key q)) (Some k) (was q))
     → (q : Node) → node_at_place nodes (now q) ≡ listed_at (drop k nodes) q
 places_before nodes next k x key was now one lt at named before more q =
-    ap (λ (o : Option ℕ). node_at_place nodes o) (more q ∙ ap (λ (z : Node). cond (is_eq (node_cmp z q)) (Some k) (was q)) named ∙ ap (λ (b : Bool). cond b (Some k) (was q)) (sym (node_ties x.node q)))
-    ∙ by (same_node x.node q)
-    ∙ ap (λ (y : OpenNode). listed_at (y ∷ drop (k + 1) nodes) q) at
-    ∙ sym (ap (λ (ys : List OpenNode). listed_at ys q) (drop_more nodes k x lt))
-  where
-    by : (b : Bool) → node_at_place nodes (cond b (Some k) (was q)) ≡ cond b (Some x) (listed_at (drop (k + 1) nodes) q)
-    by true = slice_get-get_or nodes k x lt ∙ ap (λ (y : OpenNode). Some y) (sym at)
-    by false = before q ∙ ap (λ (j : ℕ). listed_at (drop j nodes) q) (sym one)
+    let row = more q in
+    let rest = before q in
+    grind (arith, row, rest, named, node_ties x.node q, drop_more nodes k x lt, at, slice_get-get_or nodes k x lt, one)
 
 -- ---- the links into a node
 
-at_place : (lists : List (Vec ℕ Global)) (j : ℕ) (v : Vec ℕ Global) (x : ℕ) → slice_get lists j ≡ Some v → Contains v.items x → Contains (items_at (λ v. v.items) lists (Some j)) x
-at_place lists j v x at h = subst (λ (o : Option (Vec ℕ Global)). Contains (items_of (λ v. v.items) o) x) (sym at) h
-
 pub some_place : (o : Option (Bor ℕ)) (place : Bor ℕ) (i : ℕ) → o ≡ Some place → option_map (λ x. x.now) o ≡ Some i → place.now ≡ i
-some_place o place i is at = number (sym (ap (λ (p : Option (Bor ℕ)). option_map (λ x. x.now) p) is) ∙ at)
-  where
-    number : Some place.now ≡ Some i → place.now ≡ i
-    number h = cc
+some_place o place i is at = same_Some place.now i (sym (ap (λ (p : Option (Bor ℕ)). option_map (λ x. x.now) p) is) ∙ at)
 
 -- an item more in the list at a place
 pub list_there : (lists : List (Vec ℕ Global)) (i : ℕ) (old new : Vec ℕ Global) (x : ℕ) → i < length lists → new.items ≡ old.items ++ x ∷ [] → Contains (items_at (λ v. v.items) (set lists i new) (Some i)) x
 list_there lists i old new x lt is =
-    at_place (set lists i new) i new x
-    (slice_get-get_or (set lists i new) i new (subst (λ (n : ℕ). i < n) (sym (length-set lists i new)) lt) ∙ ap (λ (v : Vec ℕ Global). Some v) (get_or-set_same lists i new new lt))
+    subst (λ (o : Option (Vec ℕ Global)). Contains (items_of (λ v. v.items) o) x) (sym (set_there lists i new lt))
     (subst (λ (xs : List ℕ). Contains xs x) (sym is) (Contains-push old.items x))
 
 -- where it is put at the end of one list, the others are as they were
 pub lists_grow : (lists : List (Vec ℕ Global)) (i : ℕ) (old new : Vec ℕ Global) (x : ℕ) → i < length lists → old ≡ get_or lists i old → new.items ≡ old.items ++ x ∷ [] → GrowAt (λ v. v.items) lists (set lists i new) x
 lists_grow lists i old new x lt at is None = inl refl
-lists_grow lists i old new x lt at is (Some j) = by (nat_eq j i) refl
-  where
-    within : i < length (set lists i new)
-    within = subst (λ (n : ℕ). i < n) (sym (length-set lists i new)) lt
-
-    there : slice_get (set lists i new) i ≡ Some new
-    there = slice_get-get_or (set lists i new) i new within ∙ ap (λ (v : Vec ℕ Global). Some v) (get_or-set_same lists i new new lt)
-
-    was : slice_get lists i ≡ Some old
-    was = slice_get-get_or lists i old lt ∙ ap (λ (v : Vec ℕ Global). Some v) (sym at)
-
-    other : (j ≡ i → ⊥) → slice_get (set lists i new) j ≡ slice_get lists j
-    other differs = elim (slice_get_cases lists j).1 [
-      | inl found ↦
-          slice_get-get_or (set lists i new) j found.0 (subst (λ (n : ℕ). j < n) (sym (length-set lists i new)) found.1)
-          ∙ ap (λ (v : Vec ℕ Global). Some v) (get_or-set_other lists i j new found.0 differs ∙ found.3) ∙ sym found.2
-      | inr past ↦ slice_get_past (set lists i new) j (subst (λ (n : ℕ). n ≤ j) (sym (length-set lists i new)) past.0) ∙ sym past.1
-    ]
-
-    by : (b : Bool) → nat_eq j i ≡ b → (items_at (λ v. v.items) (set lists i new) (Some j) ≡ items_at (λ v. v.items) lists (Some j)) ⊎ (items_at (λ v. v.items) (set lists i new) (Some j) ≡ items_at (λ v. v.items) lists (Some j) ++ x ∷ [])
-    by true e =
-        let same : j ≡ i = eqb-true j i e in
-        inr (ap (λ (k : ℕ). items_at (λ v. v.items) (set lists i new) (Some k)) same ∙ ap (items_of (λ v. v.items)) there ∙ is
-        ∙ ap (λ (o : Option (Vec ℕ Global)). items_of (λ v. v.items) o ++ x ∷ []) (sym was) ∙ ap (λ (k : ℕ). items_at (λ v. v.items) lists (Some k) ++ x ∷ []) (sym same))
-    by false e = inl (ap (items_of (λ v. v.items)) (other (eqb-false j i e)))
+lists_grow lists i old new x lt at is (Some j) = elim (cases_eq j i) [
+  | inl same ↦
+      let was : slice_get lists j ≡ Some old = ap (λ (k : ℕ). slice_get lists k) same ∙ slice_get_read lists (length lists) i old refl lt at in
+      let now : slice_get (set lists i new) j ≡ Some new = ap (λ (k : ℕ). slice_get (set lists i new) k) same ∙ set_there lists i new lt in
+      inr (ap (items_of (λ v. v.items)) now ∙ is ∙ ap (λ (o : Option (Vec ℕ Global)). items_of (λ v. v.items) o ++ x ∷ []) (sym was))
+  | inr other ↦ inl (ap (items_of (λ v. v.items)) (set_other lists i j new other))
+]
 
 -- an empty list more
 pub empty_more : (lists : List (Vec ℕ Global)) (v : Vec ℕ Global) → v.items ≡ [] → ((place : Option ℕ) → items_at (λ w. w.items) lists place ≡ []) → (place : Option ℕ) → items_at (λ w. w.items) (lists ++ v ∷ []) place ≡ []
@@ -132,11 +78,8 @@ empty_more lists v e before None = refl
 empty_more [] v e before (Some zero) = e
 empty_more [] v e before (Some (suc j)) = refl
 empty_more (w ∷ lists) v e before (Some zero) = before (Some zero)
-empty_more (w ∷ lists) v e before (Some (suc j)) = empty_more lists v e (rest w lists before) (Some j)
-  where
-    rest : (w : Vec ℕ Global) (lists : List (Vec ℕ Global)) → ((place : Option ℕ) → items_at (λ z. z.items) (w ∷ lists) place ≡ []) → (place : Option ℕ) → items_at (λ z. z.items) lists place ≡ []
-    rest w lists all None = refl
-    rest w lists all (Some k) = all (Some (suc k))
+empty_more (w ∷ lists) v e before (Some (suc j)) =
+    empty_more lists v e (λ place. elim place as (λ o. items_at (λ z. z.items) lists o ≡ []) [ None ↦ refl | Some k ↦ before (Some (suc k)) ]) (Some j)
 
 -- no link
 pub into_none : (links : List Link) (into : Node → List ℕ) → ((m : Node) → into m ≡ []) → AreInto 0 links into
@@ -151,7 +94,7 @@ into_none links into no_place = record {
 pub into_more : (links : List Link) (n : ℕ) (one : Link) (was now : Node → List ℕ) → n < length links → one ≡ get_or links n one → AreInto n links was
     → ((m : Node) → (now m ≡ was m) ⊎ (now m ≡ was m ++ n ∷ [])) → Contains (now one.subject) n → AreInto (n + 1) links now
 into_more links n one was now lt is before grown there = record {
-  found = λ i l below at. elim (split i below) [
+  found = λ i l below at. elim (up_to i n below) [
     | inl less ↦ stays l.subject i (before.found i l less at)
     | inr e ↦ subst (λ (j : ℕ). Contains (now l.subject) j) (sym e) (subst (λ (k : Link). Contains (now k.subject) n) (sym (same i l e at)) there)
   ];
@@ -164,17 +107,10 @@ into_more links n one was now lt is before grown there = record {
   ];
   once = λ m. elim (grown m) [
     | inl e ↦ subst (λ (is : List ℕ). IsDistinct nat_eq is) (sym e) (before.once m)
-    | inr e ↦ subst (λ (is : List ℕ). IsDistinct nat_eq is) (sym e) (IsDistinct-push nat_eq_equiv (was m) n (before.once m) (fresh m (list_any (nat_eq n) (was m)) refl))
+    | inr e ↦ subst (λ (is : List ℕ). IsDistinct nat_eq is) (sym e) (IsDistinct-push nat_eq_equiv (was m) n (before.once m) (fresh m))
   ];
 }
   where
-    split : (j : ℕ) → j < n + 1 → (j < n) ⊎ (j ≡ n)
-    split j k = by (nat_lt j n) refl
-      where
-        by : (b : Bool) → nat_lt j n ≡ b → (j < n) ⊎ (j ≡ n)
-        by true e = inl (ltb-true j n e)
-        by false e = inr (let le = ltb-false j n e in omega (arith, k, le))
-
     same : (i : ℕ) (l : Link) → i ≡ n → slice_get links i ≡ Some l → l ≡ one
     same i l e at = same_Some l one (sym at ∙ ap (λ (j : ℕ). slice_get links j) e ∙ slice_get-get_or links n one lt ∙ ap (λ (k : Link). Some k) (sym is))
 
@@ -184,19 +120,16 @@ into_more links n one was now lt is before grown there = record {
       | inr e ↦ subst (λ (is : List ℕ). Contains is i) (sym e) (Contains-append_left (was m) (n ∷ []) i h)
     ]
 
-    fresh : (m : Node) (b : Bool) → list_any (nat_eq n) (was m) ≡ b → list_any (nat_eq n) (was m) ≡ false
-    fresh m false e = e
-    fresh m true e =
+    fresh : (m : Node) → list_any (nat_eq n) (was m) ≡ false
+    fresh m = false_from_ne_true (list_any (nat_eq n) (was m)) (λ e.
         let old = same_any (nat_eq n) (was m) e in
         let lt = before.below m old.0 old.1 in
-        let is : n ≡ old.0 = eqb-true n old.0 old.2 in
-        absurd (omega (arith, lt, is))
+        let is : n ≡ old.0 = eqb-true n old.0 old.2 in omega (arith, lt, is))
 
 -- of links of distinct records those at two places have two
 past_first : (m : Node) (links : List Link) → AllByRecursion (λ n. same_node m n ≡ false) (map link_record links) → (j : ℕ) (k : Link) → slice_get links j ≡ Some k → same_node m (link_record k) ≡ false
-past_first m [] h j k e = let no : None ≡ Some k = e in absurd cc
-past_first m (x ∷ links) h zero k e = subst (λ (l : Link). same_node m (link_record l) ≡ false) (same_Some x k e) h.0
-past_first m (x ∷ links) h (suc j) k e = past_first m links h.1 j k e
+past_first m links h j k e =
+    All-contains (λ n. same_node m n ≡ false) (map link_record links) (link_record k) (All-from_recursion (λ n. same_node m n ≡ false) (map link_record links) h) (Contains-map link_record links k (got_is links j k e))
 
 places_apart : (links : List Link) → IsDistinct same_node (map link_record links) → (i j : ℕ) (l k : Link) → slice_get links i ≡ Some l → slice_get links j ≡ Some k → (i ≡ j → ⊥) → same_node (link_record l) (link_record k) ≡ false
 unfolding IsDistinct
@@ -233,17 +166,24 @@ below_is n (Some i) h = (i, refl, h)
 pub subject_placed : (day : ℤ) (nodes : List OpenNode) (rows : List Row) (place_of : Node → Option ℕ) → ArePlaces nodes place_of → (l : Link) → Contains (filter_map (link_in day nodes) rows) l → IsBelow (length nodes) (place_of l.subject)
 subject_placed day nodes rows place_of are l h =
     let p = Contains-from_filter_map (link_in day nodes) rows l h in
-    by (place_of l.subject) (are l.subject) (subject_listed day nodes p.0 l p.2)
+    below (place_of l.subject) (subst (λ (x : Option OpenNode). IsSome x) (sym (are l.subject)) (subject_listed day nodes p.0 l p.2))
   where
-    by : (o : Option ℕ) → node_at_place nodes o ≡ listed_at nodes l.subject → IsSome (listed_at nodes l.subject) → IsBelow (length nodes) o
-    by None e some = let no : IsSome {T = OpenNode} None = subst (λ (x : Option OpenNode). IsSome x) (sym e) some in absurd cc
-    by (Some i) e some = within (slice_get nodes i) refl (subst (λ (x : Option OpenNode). IsSome x) (sym e) some)
-      where
-        within : (o : Option OpenNode) → slice_get nodes i ≡ o → IsSome o → i < length nodes
-        within None q x = absurd cc
-        within (Some y) q x = slice_get_within nodes i y q
+    below : (o : Option ℕ) → IsSome (node_at_place nodes o) → IsBelow (length nodes) o
+    below None some = absurd cc
+    below (Some i) some = elim (slice_get_cases nodes i).1 [ inl found ↦ found.1 | inr past ↦ absurd (let no : IsSome {T = OpenNode} None = subst (λ (x : Option OpenNode). IsSome x) past.1 some in cc) ]
 
--- the same, of what is answered
-pub if_ok : {T E : Type 0} (P Q : T → Type 0) (r : Result T E) → ((x : T) → P x → Q x) → IfOk r P → IfOk r Q
-if_ok P Q (Ok x) f h = f x h
-if_ok P Q (Err e) f h = tt
+-- ---- an entity more
+
+pub entities_none : (now : Sign → List Node) → AreUnder [] now
+entities_none now x k h = absurd (none x h)
+
+pub entities_more : (nodes : List OpenNode) (i : ℕ) (one : OpenNode) (was now : Sign → List Node) → i < length nodes → one ≡ get_or nodes i one → AreUnder (take i nodes) was → Stays was now → ((k : Sign) → HasSign one k → Contains (now k) one.node)
+    → AreUnder (take (i + 1) nodes) now
+entities_more nodes i one was now lt is before stays these x k on has = elim (Contains-take_more nodes i one x lt on) [
+  | inl old ↦ stays k x.node (before x k old has)
+  | inr e ↦ subst (λ (y : OpenNode). Contains (now k) y.node) (is ∙ sym e) (these k (subst (λ (y : OpenNode). HasSign y k) (e ∙ sym is) has))
+]
+
+-- what is listed of a node is in the lists
+pub under_all : (s : Shown) (signed : Sign → List Node) (k : Sign) → AreUnder s.nodes signed → HaveSigned s k (signed k)
+under_all s signed k are x at has = are x k (found_is s.nodes x.node x at).0 has

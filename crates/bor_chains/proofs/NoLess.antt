@@ -1,9 +1,9 @@
 -- More interests take nobody out of a report.
-use Rattle.std.proofs.Common.{◌≡◌, ◌⊎◌, ◌&&◌, ◌||◌, ◌++◌, ℕ, ℤ, Bool, true, false, cond, Option, Some, None, option_map, option_and_then, List, [], ◌∷◌, Contains, length, sym, refl, ap, ◌∙◌, subst, inl, inr, arith}
+use Rattle.std.proofs.Common.{◌≡◌, ◌⊎◌, ◌&&◌, ◌++◌, ℕ, ℤ, Bool, true, false, cond, Option, Some, None, option_map, option_and_then, List, [], ◌∷◌, Contains, length, sym, refl, ap, ◌∙◌, subst, inl, inr, arith}
 use Rattle.std.specs.List.{filter, last_or, list_any}
-use Rattle.std.proofs.lemmas.Bool.{and_parts}
-use Rattle.std.proofs.lemmas.Option.{same_Some}
+use Rattle.std.proofs.lemmas.Option.{cond_some}
 use Rattle.std.proofs.lemmas.List.Elements.{filter-append}
+use Rattle.std.proofs.lemmas.List.Folds.{list_any_at}
 use Rattle.bods_read.specs.declared.details.Details.{Details}
 use Rattle.bods_read.specs.declared.details.Details.TheVariants as details
 use Rattle.bods_read.specs.declared.interest.Interest.{Interest}
@@ -11,7 +11,6 @@ use Rattle.bor_records.specs.declared.row.Row.{Row}
 use Rattle.bor_records.specs.Admission.{is_closed}
 use Rattle.bor_records.specs.Snapshot.{is_dated, unless_closed}
 use Rattle.bor_records.specs.declared.links.node.Node.{Node}
-use Rattle.bor_records.specs.declared.links.node.NodeInfo.{NodeInfo}
 use Rattle.bor_records.specs.declared.links.node.OpenNode.{OpenNode}
 use Rattle.bor_records.specs.declared.links.node.Link.{Link}
 use Rattle.bor_records.specs.Links.Series.{series_of, is_of, open_at}
@@ -23,9 +22,9 @@ use Rattle.bor_records.specs.Links.Candidates.{beside}
 use Rattle.bor_records.proofs.Lists.{none_pass}
 use Rattle.bor_records.proofs.Rows.{last_or-push}
 use Rattle.bor_records.proofs.OnLinks.SameNode.{same_node_is}
-use Rattle.bor_records.proofs.OnLinks.Found.{none, here, there, cases}
 use Rattle.bor_records.proofs.OnLinks.Series.{both_tests}
 use Rattle.bor_records.proofs.OnLinks.ByKey.{listed_by_key, link_found, link_made, open_at_in}
+use Rattle.bor_records.proofs.OnLinks.Signs.{same_any}
 use Rattle.bor_chains.specs.declared.line.PersonLine.{PersonLine}
 use Rattle.bor_chains.specs.Chains.{IsChain, AreJoined}
 use Rattle.bor_chains.specs.NoLess.{AreAmong, StatesNoLess, IsOpenNoLess, AreOpenNoLess, with_details, IsNoLess, ShowsNoLess, NamesNoFewer, MoreVotesTakeNobodyOut}
@@ -33,41 +32,12 @@ use Rattle.bor_chains.proofs.Reach.{chain_on}
 
 -- ---- interests
 
-any_there : (p : Interest → Bool) (xs : List Interest) (x : Interest) → Contains xs x → p x ≡ true → list_any p xs ≡ true
-any_there p [] x on e = absurd (none x on)
-any_there p (y ∷ ys) x on e = elim (cases y ys x on) [
-  | inl same ↦ ap (λ (b : Bool). b || list_any p ys) (ap p same ∙ e)
-  | inr later ↦ ap (λ (b : Bool). p y || b) (any_there p ys x later e) ∙ yes (p y)
-]
-  where
-    yes : (b : Bool) → (b || true) ≡ true
-    yes true = refl
-    yes false = refl
-
 any_more : (p : Interest → Bool) (xs ys : List Interest) → AreAmong xs ys → list_any p xs ≡ true → list_any p ys ≡ true
-any_more p [] ys among e = absurd cc
-any_more p (x ∷ xs) ys among e = at (λ h. any_more p xs ys (λ i on. among i (there x xs i on)) h) (p x) refl e
-  where
-    at : (list_any p xs ≡ true → list_any p ys ≡ true) → (b : Bool) → p x ≡ b → (b || list_any p xs) ≡ true → list_any p ys ≡ true
-    at more true is h = any_there p ys x (among x (here x xs)) is
-    at more false is h = more h
+any_more p xs ys among e = let x = same_any p xs e in let on = among x.0 x.1 in list_any_at p ys on.0 x.0 on.1 (ap p on.2 ∙ x.2)
 
 stakes : (day : ℤ) (is more : List Interest) → AreAmong is more → is_stake day is ≡ true → is_stake day more ≡ true
-stakes day is more among h = by (list_any (is_voting_majority day) is) refl h
-  where
-    votes : Bool
-    votes = list_any (is_voting_majority day) more
-
-    or_all : (b c : Bool) → c ≡ true → (b || c) ≡ true
-    or_all true c e = refl
-    or_all false c e = e
-
-    by : (v : Bool) → list_any (is_voting_majority day) is ≡ v → (v || (list_any (is_board_majority day) is && list_any (is_membership day) is)) ≡ true → is_stake day more ≡ true
-    by true e k = ap (λ (b : Bool). b || (list_any (is_board_majority day) more && list_any (is_membership day) more)) (any_more (is_voting_majority day) is more among e)
-    by false e k =
-        let both = and_parts (list_any (is_board_majority day) is) (list_any (is_membership day) is) k in
-        or_all votes (list_any (is_board_majority day) more && list_any (is_membership day) more)
-        (ap (λ (b : Bool). b && list_any (is_membership day) more) (any_more (is_board_majority day) is more among both.0) ∙ any_more (is_membership day) is more among both.1)
+stakes day is more among h =
+    grind (arith, any_more (is_voting_majority day) is more among, any_more (is_board_majority day) is more among, any_more (is_membership day) is more among)
 
 holdings : (day : ℤ) (is more : List Interest) → AreAmong is more → is_holding day is ≡ true → is_holding day more ≡ true
 holdings day is more among h = any_more _ is more among h
@@ -99,31 +69,20 @@ AreInPlace r q o p = (o ≡ p) ⊎ ((o ≡ Some r) × (p ≡ Some q))
 
 last_in_place : (p : Row → Bool) (r q : Row) → p q ≡ p r → (o : Option Row) (before after : List Row)
     → AreInPlace r q (last_or o (filter p (before ++ r ∷ after))) (last_or o (filter p (before ++ q ∷ after)))
-last_in_place p r q same o [] after = at (p r) (p q) same (filter p after)
+last_in_place p r q same o [] after = at (filter p after)
   where
-    at : (b c : Bool) → c ≡ b → (xs : List Row) → AreInPlace r q (last_or o (cond b (r ∷ xs) xs)) (last_or o (cond c (q ∷ xs) xs))
-    at true true e [] = inr (refl, refl)
-    at true true e (x ∷ xs) = inl refl
-    at false false e xs = inl refl
-    at true false e xs = absurd (let no : false ≡ true = e in cc)
-    at false true e xs = absurd (let no : true ≡ false = e in cc)
-last_in_place p r q same o (x ∷ before) after = at (last_in_place p r q same (Some x) before after) (last_in_place p r q same o before after) (p x)
-  where
-    at : AreInPlace r q (last_or (Some x) (filter p (before ++ r ∷ after))) (last_or (Some x) (filter p (before ++ q ∷ after)))
-        → AreInPlace r q (last_or o (filter p (before ++ r ∷ after))) (last_or o (filter p (before ++ q ∷ after))) → (b : Bool)
-        → AreInPlace r q (last_or o (cond b (x ∷ filter p (before ++ r ∷ after)) (filter p (before ++ r ∷ after)))) (last_or o (cond b (x ∷ filter p (before ++ q ∷ after)) (filter p (before ++ q ∷ after))))
-    at with_it without true = with_it
-    at with_it without false = without
+    at : (xs : List Row) → AreInPlace r q (last_or o (cond (p r) (r ∷ xs) xs)) (last_or o (cond (p q) (q ∷ xs) xs))
+    at [] = grind (arith, same)
+    at (x ∷ xs) = grind (arith, same)
+last_in_place p r q same o (x ∷ before) after = grind (arith, last_in_place p r q same (Some x) before after, last_in_place p r q same o before after)
 
 by_interest : (day : ℤ) (before after : List Row) (r : Row) (d : Details) → StatesNoLess r.statement.details d → AreOpenNoLess day (before ++ r ∷ after) (before ++ with_details d r ∷ after)
 by_interest day before after r d states n =
-    subst (λ (o : Option Row). IsOpenNoLess o (open_at day n (before ++ q ∷ after))) (sym (open_is day n (before ++ r ∷ after)))
-    (subst (λ (o : Option Row). IsOpenNoLess (option_and_then unless_closed old) o) (sym (open_is day n (before ++ q ∷ after)))
+    rw (open_is day n (before ++ r ∷ after), open_is day n (before ++ q ∷ after))
     (elim (last_in_place (tests day n) r q refl None before after) [
       | inl same ↦ open_same (option_and_then unless_closed old) (option_and_then unless_closed new) (ap (λ (o : Option Row). option_and_then unless_closed o) same)
-      | inr two ↦ subst (λ (o : Option Row). IsOpenNoLess (option_and_then unless_closed o) (option_and_then unless_closed new)) (sym two.0)
-          (subst (λ (o : Option Row). IsOpenNoLess (unless_closed r) (option_and_then unless_closed o)) (sym two.1) (at (is_closed r.status)))
-    ]))
+      | inr two ↦ rw (two.0, two.1) (at (is_closed r.status))
+    ])
   where
     q : Row
     q = with_details d r
@@ -156,11 +115,7 @@ by_statement day before after r dated still last no_less n = of_series (is_of n 
     own : is_of n r ≡ true → series_of r ≡ n → open_at day n (before ++ r ∷ after) ≡ Some r
     own e same =
         let past : F after ≡ [] = none_pass (is_of n) after (ap (λ (m : Node). list_any (is_of m) after) (sym same) ∙ last) in
-        let rows : F (before ++ r ∷ after) ≡ F before ++ r ∷ [] = split ∙ ap (λ (b : Bool). F before ++ cond b (r ∷ F after) (F after)) e ∙ ap (λ (xs : List Row). F before ++ r ∷ xs) past in
-        ap (λ (xs : List Row). option_and_then unless_closed (last_or None (filter (is_dated day) xs))) rows
-        ∙ ap (λ (xs : List Row). option_and_then unless_closed (last_or None xs)) (filter-append (is_dated day) (F before) (r ∷ []) ∙ ap (λ (b : Bool). filter (is_dated day) (F before) ++ cond b (r ∷ []) []) dated)
-        ∙ ap (λ (o : Option Row). option_and_then unless_closed o) (last_or-push None (filter (is_dated day) (F before)) r)
-        ∙ ap (λ (b : Bool). cond b None (Some r)) still
+        grind (arith, e, past, split, filter-append (is_dated day) (F before) (r ∷ []), dated, last_or-push None (filter (is_dated day) (F before)) r, still)
 
     of_series : (b : Bool) → is_of n r ≡ b → IsOpenNoLess (open_at day n (before ++ after)) (open_at day n (before ++ r ∷ after))
     of_series true e =
@@ -185,25 +140,15 @@ nodes_same day rows more no_less n = listed_by_key day n more ∙ at (open_at da
     at (Some r) is h =
         let of_q = (open_at_in day n more h.0 h.1).1 in
         let of_r = (open_at_in day n rows r is).1 in
-        ap (λ (o : Option Row). option_and_then node_in o) h.1
-        ∙ ap (λ (m : Node). node_with m h.0.statement.details) (of_q ∙ sym of_r)
-        ∙ node_same (series_of r) r.statement.details (h.0).statement.details h.2
+        rw h.1 (ap (λ (m : Node). node_with m h.0.statement.details) (of_q ∙ sym of_r) ∙ node_same (series_of r) r.statement.details (h.0).statement.details h.2)
 
 -- ---- links
 
 abbrev linked : List OpenNode → Node → Node → Bool
 linked nodes party subject = is_entity_info (info_in nodes subject) && is_some_info (info_in nodes party)
 
-made_is : (b : Bool) (k l : Link) → cond b (Some k) None ≡ Some l → (b ≡ true) × (k ≡ l)
-made_is true k l h = (refl, same_Some k l h)
-made_is false k l h = let no : None ≡ Some l = h in absurd cc
-
 link_no_less : (day : ℤ) (nodes more : List OpenNode) (r q : Row) (l : Link) → ((n : Node) → listed_at more n ≡ listed_at nodes n) → series_of q ≡ series_of r
     → (d : Details) → StatesNoLess d q.statement.details → link_with day nodes r d ≡ Some l → (k : Link) × (link_in day more q ≡ Some k) × IsNoLess l k
-link_no_less day nodes more r q l same series (details.Entity kind name identifiers) states h = let no : None ≡ Some l = h in absurd cc
-link_no_less day nodes more r q l same series (details.Person kind name) states h = let no : None ≡ Some l = h in absurd cc
-link_no_less day nodes more r q l same series (details.Relationship None party interests) states h = let no : None ≡ Some l = h in absurd cc
-link_no_less day nodes more r q l same series (details.Relationship (Some subject) None interests) states h = let no : None ≡ Some l = h in absurd cc
 link_no_less day nodes more r q l same series (details.Relationship (Some subject) (Some party) interests) states h = (k, made, no_less)
   where
     at_q : (rec : List ℕ) → beside q rec ≡ beside r rec
@@ -216,15 +161,10 @@ link_no_less day nodes more r q l same series (details.Relationship (Some subjec
     k = record { rec = q.statement.rec; party = beside q party; subject = beside q subject; stake = is_stake day states.0; holding = is_holding day states.0 }
 
     was : (linked nodes (beside r party) (beside r subject) ≡ true) × (record { rec = r.statement.rec; party = beside r party; subject = beside r subject; stake = is_stake day interests; holding = is_holding day interests } ≡ l)
-    was = made_is (linked nodes (beside r party) (beside r subject)) _ l h
+    was = cond_some (linked nodes (beside r party) (beside r subject)) _ l h
 
     made : link_in day more q ≡ Some k
-    made =
-        ap (λ (d : Details). link_with day more q d) states.1
-        ∙ ap (λ (b : Bool). cond b (Some k) None)
-        (ap (λ (o : Option NodeInfo). is_entity_info o && is_some_info (info_in more (beside q party))) (info subject)
-        ∙ ap (λ (o : Option NodeInfo). is_entity_info (info_in nodes (beside r subject)) && is_some_info o) (info party)
-        ∙ was.0)
+    made = rw (states.1, info subject, info party, was.0)
 
     no_less : IsNoLess l k
     no_less = subst (λ (x : Link). IsNoLess x k) was.1 (record {
@@ -233,6 +173,7 @@ link_no_less day nodes more r q l same series (details.Relationship (Some subjec
       stake = λ e. stakes day interests states.0 states.2 e;
       holding = λ e. holdings day interests states.0 states.2 e;
     })
+link_no_less day nodes more r q l same series d states h = let no : None ≡ Some l = h in absurd cc
 
 shown : (day : ℤ) (rows more : List Row) → AreOpenNoLess day rows more → ShowsNoLess (shown_of day rows) (shown_of day more)
 shown day rows more no_less = record { nodes = nodes_same day rows more no_less; links = links }

@@ -1,15 +1,22 @@
--- Nodes that stand for one entity have the same chains, and so one report and one evidence.
-use Rattle.std.proofs.Common.{ℕ, List, [], ◌∷◌, sym, subst}
+-- All that are the same as a node are a class, and nodes that stand for one entity have the same chains, and so one report and one evidence.
+use Rattle.std.proofs.Common.{[], Contains, refl, ℕ, List, ◌∷◌, sym, subst}
+use Rattle.bor_records.proofs.OnLinks.Sames.{same_more, same_reached, same_turn}
 use Rattle.bor_records.specs.declared.links.node.Node.{Node}
 use Rattle.bor_records.specs.declared.links.node.Link.{Link}
 use Rattle.bor_records.specs.Links.Shown.{Shown}
 use Rattle.bor_records.specs.Links.Aliases.{IsAliasPath, Same}
-use Rattle.bor_records.proofs.OnLinks.Sames.{same_turn}
+use Rattle.bor_chains.specs.Laws.{SameAreAClass, SameEntitiesHaveOneReport}
 use Rattle.bor_chains.specs.declared.tree.EvidenceLink.{EvidenceLink}
 use Rattle.bor_chains.specs.declared.tree.EvidencePerson.{EvidencePerson}
 use Rattle.bor_chains.specs.Chains.{IsChain, IsLeast}
 use Rattle.bor_chains.specs.Evidence.{IsEvidence, IsNamedBy, IsOfEvidence}
-use Rattle.bor_chains.specs.Laws.{SameEntitiesHaveOneReport}
+
+pub same_is_class : SameAreAClass
+same_is_class s a nodes all = record {
+  own = (all.each a).1 ([], refl);
+  closed = λ b c h l. let same = (all.each b).0 h in (all.each c).1 (same_more s a same.0 b c same.1 l);
+  least = λ more h closed b on. let same = (all.each b).0 on in same_reached s (λ m. Contains more m) closed a same.0 b same.1 h;
+}
 
 -- steps go on to what the last node is the same as
 same_on : (s : Shown) (a : Node) (cs : List Node) (b c : Node) → IsAliasPath s a cs b → Same s b c → Same s a c

@@ -1,6 +1,5 @@
-use Rattle.std.proofs.Common.{◌≡◌, ◌+◌, ◌<◌, ◌≤◌, ℕ, length, arith, refl, subst}
+use Rattle.std.proofs.Common.{◌≡◌, ◌+◌, ◌<◌, length, arith, refl}
 use Rattle.std.proofs.lemmas.Option.{slice_get_read}
-use Rattle.bor_chains.specs.Branches.{IsCount}
 use Rattle.bor_chains.proofs.Steps.{down_is, count_step, count_end}
 use Rattle.bor_chains.proofs.branches.count_at.Goals as goal
 
@@ -17,7 +16,7 @@ returns-in-Some-get c = λ a.
     let few = r.0 in
     let fits = c.ranges.place.fits in
     let same : count + 1 ≡ c.saturating_add.result = omega (arith, c.saturating_add.ensures) in
-    subst (λ (n : ℕ). (n ≤ c.args.place) × IsCount steps c.args.place n) same r
+    rw same at r
 
 pub returns-in-None : goal.returns-in-None
 returns-in-None c = λ a. count_end c.args.steps.now c.args.place c.in-None.ensures.none

@@ -1,6 +1,5 @@
-use Rattle.std.proofs.Common.{◌≡◌, ℕ, [], length, sym, subst, append-nil, arith}
-use Rattle.bor_chains.specs.Branches.{ArePersonsFrom, AreLinksFrom}
-use Rattle.bor_chains.proofs.Gathering.{taken, persons_from_end, links_from_end, persons_taken, links_taken}
+use Rattle.std.proofs.Common.{◌≡◌, [], length, sym, append-nil, arith}
+use Rattle.bor_chains.proofs.Steps.{taken, persons_from_end, links_from_end, persons_taken, links_taken}
 use Rattle.bor_chains.proofs.branches.gathered.Goals as goal
 
 pub loop-step-init : goal.loop-step-init
@@ -28,10 +27,8 @@ loop-step-preserved c =
 
 pub returns-clause-persons : goal.returns-clause-persons
 returns-clause-persons c =
-    let end : length c.loop-step.left.items ≡ 0 = omega (arith, c.in_default.ensures.cases.0) in
-    subst (λ (n : ℕ). ArePersonsFrom c.args.steps.items n c.loop-step.found.persons.items) end c.loop-step.invariant.persons
+    let end : length c.loop-step.left.items ≡ 0 = omega (arith, c.in_default.ensures.cases.0) in rw end at c.loop-step.invariant.persons
 
 pub returns-clause-links : goal.returns-clause-links
 returns-clause-links c =
-    let end : length c.loop-step.left.items ≡ 0 = omega (arith, c.in_default.ensures.cases.0) in
-    subst (λ (n : ℕ). AreLinksFrom c.args.steps.items n c.loop-step.found.links.items) end c.loop-step.invariant.links
+    let end : length c.loop-step.left.items ≡ 0 = omega (arith, c.in_default.ensures.cases.0) in rw end at c.loop-step.invariant.links

@@ -1,6 +1,6 @@
 use Rattle.std.proofs.Common.{◌<◌, Bool, Some, sym, refl, inl, inr, ◌∙◌, ap, length, arith}
 use Rattle.std.proofs.lemmas.Option.{slice_get_read}
-use Rattle.bor_chains.proofs.Needed.{needed_end, needed_not, needed_yes}
+use Rattle.bor_chains.proofs.Steps.{needed_end, needed_not, needed_yes}
 use Rattle.bor_chains.proofs.branches.need_below.Goals.{then-not-is_entity-via-then-not-is_entity, then-not-is_entity-via-else-not-is_entity+then-index}
 use Rattle.bor_chains.proofs.branches.need_below.Goals as goal
 

@@ -1,6 +1,5 @@
-use Rattle.std.proofs.Common.{◌≡◌, ◌+◌, ◌-◌, ℕ, arith, subst, ◌∙◌}
-use Rattle.bor_chains.specs.Branches.{AreNeeded}
-use Rattle.bor_chains.proofs.Needed.{needed_none}
+use Rattle.std.proofs.Common.{◌≡◌, ◌+◌, ◌-◌, arith, ◌∙◌}
+use Rattle.bor_chains.proofs.Steps.{needed_none}
 use Rattle.bor_chains.proofs.branches.needed_of.Goals as goal
 
 pub loop-place-init : goal.loop-place-init
@@ -17,10 +16,8 @@ loop-place-preserved c =
     record {
       within = omega (arith, invariant.within);
       long = c.need_below.ensures.long ∙ invariant.long;
-      needed = c.need_below.ensures.needed (subst (λ (n : ℕ). AreNeeded c.args.steps.now n c.loop-place.needed.items) place invariant.needed);
+      needed = c.need_below.ensures.needed (rw place at invariant.needed);
     }
 
 pub returns : goal.returns
-returns c =
-    let end : c.loop-place.place ≡ 0 = omega arith in
-    subst (λ (n : ℕ). AreNeeded c.args.steps.now n c.loop-place.needed.items) end c.loop-place.invariant.needed
+returns c = let end : c.loop-place.place ≡ 0 = omega arith in rw end at c.loop-place.invariant.needed

@@ -1,4 +1,4 @@
-use Rattle.std.proofs.Common.{Bool, false, List, [], ◌∷◌, Contains, length, arith, sym, ap, subst, inl, inr, length-append}
+use Rattle.std.proofs.Common.{Bool, false, List, [], ◌∷◌, length, arith, sym, ap, inl, inr, length-append}
 use Rattle.std.proofs.lemmas.List.Elements.{Contains-push_cases}
 use Rattle.bor_records.proofs.OnLinks.Found.{none}
 use Rattle.bor_chains.proofs.branches.none_of.Goals as goal
@@ -6,7 +6,7 @@ use Rattle.bor_chains.proofs.branches.none_of.Goals as goal
 pub loop-init : goal.loop-init
 loop-init c = record {
   long = ap (λ (xs : List Bool). length xs) c.in_ok-list.ensures.items;
-  all = λ x h. absurd (none x (subst (λ (xs : List Bool). Contains xs x) c.in_ok-list.ensures.items h));
+  all = λ x h. absurd (none x (rw c.in_ok-list.ensures.items at h));
 }
 
 pub loop-preserved : goal.loop-preserved
@@ -16,7 +16,7 @@ loop-preserved c =
     let long = invariant.long in
     record {
       long = omega (arith, length-append c.loop.list.items (false ∷ []));
-      all = λ x h. elim (Contains-push_cases c.loop.list.items false x (subst (λ (xs : List Bool). Contains xs x) c.in_ok-push.ensures.items h)) [
+      all = λ x h. elim (Contains-push_cases c.loop.list.items false x (rw c.in_ok-push.ensures.items at h)) [
         | inl was ↦ invariant.all x was
         | inr new ↦ sym new
       ];

@@ -1,5 +1,5 @@
 use Rattle.std.proofs.Common.{◌∙◌, sym}
-use Rattle.bor_chains.proofs.Counting.{none_crossed, links_crossed}
+use Rattle.bor_chains.proofs.Trails.{none_crossed, links_crossed}
 use Rattle.bor_chains.proofs.crossed.cross_one.Goals as goal
 
 pub returns-then-is_holder-clause-crossed : goal.returns-then-is_holder-clause-crossed

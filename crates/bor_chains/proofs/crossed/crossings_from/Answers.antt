@@ -1,7 +1,6 @@
-use Rattle.std.proofs.Common.{◌≡◌, ℕ, length, arith, rules, refl, subst}
-use Rattle.bor_chains.specs.Crossings.{AreCrossings}
+use Rattle.std.proofs.Common.{◌≡◌, length, arith, rules, refl}
 use Rattle.bor_records.proofs.KeptLaws.{kept_then, lasts_then, same_lasts}
-use Rattle.bor_chains.proofs.Counting.{crossings_none, crossings_more}
+use Rattle.bor_chains.proofs.Trails.{crossings_none, crossings_more}
 use Rattle.bor_chains.proofs.crossed.crossings_from.Goals as goal
 
 pub loop-place-init : goal.loop-place-init
@@ -28,6 +27,4 @@ loop-place-preserved g c =
     }
 
 pub returns-clause-crossed : goal.returns-clause-crossed
-returns-clause-crossed g c = λ m e k. let s = g.S.LinkSource.shown m in
-    let end : c.loop-place.place ≡ length c.args.marks.now = omega arith in
-    subst (λ (n : ℕ). AreCrossings s c.args.marks.now c.args.start n c.loop-place.crossings.items) end (c.loop-place.invariant.crossed m e k)
+returns-clause-crossed g c = λ m e k. let end : c.loop-place.place ≡ length c.args.marks.now = omega arith in rw end at (c.loop-place.invariant.crossed m e k)

@@ -1,8 +1,4 @@
-use Rattle.std.proofs.Common.{List, sym, subst}
-use Rattle.bor_chains.specs.declared.tree.EvidenceLink.{EvidenceLink}
-use Rattle.bor_chains.specs.declared.tree.EvidencePerson.{EvidencePerson}
-use Rattle.bor_chains.specs.Evidence.{AreEvidenced}
-use Rattle.bor_chains.proofs.Evidenced.{all_evidenced}
+use Rattle.bor_chains.proofs.Steps.{all_evidenced}
 use Rattle.bor_chains.proofs.evidence.evidence_of.Goals as goal
 
 pub returns-clause-evidenced : goal.returns-clause-evidenced
@@ -13,8 +9,7 @@ returns-clause-evidenced g c = λ m e k. let s = g.S.LinkSource.shown m in
     let found = c.in_ok-found.found in
     let persons = c.each_person_once-persons.result.items in
     let links = c.each_link_once-links.result.items in
-    subst (λ (ps : List EvidencePerson). AreEvidenced s target (record { persons = ps; links = c.new-2.result })) (sym c.new.ensures)
-    (subst (λ (ls : List EvidenceLink). AreEvidenced s target (record { persons = persons; links = ls })) (sym c.new-2.ensures)
+    rw (c.new.ensures, c.new-2.ensures)
     (all_evidenced s target c.in_ok-trail.trail found.persons.items c.persons_in_order.result.items persons found.links.items c.links_in_order.result.items links all c.in_ok-found.ensures.persons c.in_ok-found.ensures.links
     (record { same = c.persons_in_order.ensures.same; sorted = c.persons_in_order.ensures.sorted; once = c.each_person_once-persons.ensures })
-    (record { same = c.links_in_order.ensures.same; sorted = c.links_in_order.ensures.sorted; once = c.each_link_once-links.ensures })))
+    (record { same = c.links_in_order.ensures.same; sorted = c.links_in_order.ensures.sorted; once = c.each_link_once-links.ensures }))

@@ -1,4 +1,4 @@
-use Rattle.bor_chains.proofs.OneWay.{by_record}
+use Rattle.bor_chains.proofs.OneEvidence.{by_record}
 use Rattle.bor_chains.proofs.laws.evidence_is_known_by_record.Goals as goal
 
 pub returns : goal.returns

@@ -1,4 +1,4 @@
-use Rattle.bor_chains.proofs.OneWay.{one_way_on}
+use Rattle.bor_chains.proofs.OneEvidence.{one_way_on}
 use Rattle.bor_chains.proofs.laws.links_have_one_way_on.Goals as goal
 
 pub returns : goal.returns

@@ -1,7 +1,7 @@
 use Rattle.std.proofs.Common.{Some, ap, arith}
 use Rattle.bor_chains.specs.declared.trail.Step.{Step}
 use Rattle.bor_chains.specs.Trail.{step_by}
-use Rattle.bor_chains.proofs.Readings.{filled_none, filled_more, filled_all}
+use Rattle.bor_chains.proofs.Trails.{filled_none, filled_more, filled_all}
 use Rattle.bor_chains.proofs.trail.fill.Goals as goal
 
 pub loop-alloc-init : goal.loop-alloc-init

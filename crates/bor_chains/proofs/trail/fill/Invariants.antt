@@ -1,6 +1,6 @@
 use Rattle.std.proofs.Common.{◌-◌, Some, vec_len}
 use Rattle.bor_chains.specs.Trail.{step_by}
-use Rattle.bor_chains.proofs.Readings.{AreFilled}
+use Rattle.bor_chains.proofs.Trails.{AreFilled}
 use Rattle.bor_chains.proofs.trail.fill.Given as goal
 
 -- what is put there are steps over the crossing

@@ -1,7 +1,6 @@
-use Rattle.std.proofs.Common.{◌+◌, arith, sym, subst, ℕ}
-use Rattle.bor_chains.specs.Trail.{IsAtLevel}
+use Rattle.std.proofs.Common.{◌+◌, arith}
 use Rattle.bor_records.proofs.KeptLaws.{kept_then, lasts_then}
-use Rattle.bor_chains.proofs.Levels.{level_all}
+use Rattle.bor_chains.proofs.Trails.{level_all}
 use Rattle.bor_chains.proofs.trail.trail_from.Goals as goal
 
 pub loop-start-init : goal.loop-start-init
@@ -24,12 +23,10 @@ loop-start-preserved g c =
       lasts = lasts_then _ _ _ _ invariant.lasts c.in_ok-go_on.ensures.accounted.lasts;
       counts = cc (c.in_ok-go_on.ensures.accounted.counts, invariant.counts);
       walked = λ m e k.
-          let s = g.S.LinkSource.shown m in
           let began = c.go_on.ensures.kept.began k in
           let at = invariant.walked m e began in (
             at.0 + 1,
-            subst (λ (n : ℕ). IsAtLevel s c.args.target.now n (at.0 + 1) c.go_on.new.self) (sym c.len-end.ensures)
-                (c.in_ok-go_on.ensures.walked m ((invariant.kept.same began m).0 e) k c.args.target.now at.0 at.1),
+            rw (← c.len-end.ensures) at (c.in_ok-go_on.ensures.walked m ((invariant.kept.same began m).0 e) k c.args.target.now at.0 at.1),
           );
     }
 

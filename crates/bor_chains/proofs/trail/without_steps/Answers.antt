@@ -1,10 +1,9 @@
-use Rattle.std.proofs.Common.{List, [], Option, None, refl, sym, subst, arith}
-use Rattle.bor_chains.specs.declared.trail.Step.{Step}
-use Rattle.bor_chains.proofs.Readings.{AreFilled, filled_none, filled_more, filled_all}
+use Rattle.std.proofs.Common.{[], None, refl, arith}
+use Rattle.bor_chains.proofs.Trails.{filled_none, filled_more, filled_all}
 use Rattle.bor_chains.proofs.trail.without_steps.Goals as goal
 
 pub loop-steps-init : goal.loop-steps-init
-loop-steps-init c = subst (λ (xs : List (Option Step)). AreFilled c.args.count None [] xs) (sym c.new-steps.ensures.items) (filled_none c.args.count None [])
+loop-steps-init c = rw c.new-steps.ensures.items (filled_none c.args.count None [])
 
 pub loop-steps-preserved : goal.loop-steps-preserved
 loop-steps-preserved c =

@@ -1,5 +1,5 @@
 use Rattle.std.proofs.Common.{◌-◌, [], None, vec_len}
-use Rattle.bor_chains.proofs.Readings.{AreFilled}
+use Rattle.bor_chains.proofs.Trails.{AreFilled}
 use Rattle.bor_chains.proofs.trail.without_steps.Given as goal
 
 -- no place has a step

@@ -1,9 +1,7 @@
-use Rattle.std.proofs.Common.{◌∙◌, [], List, length, arith, rules, refl, sym, subst}
+use Rattle.std.proofs.Common.{◌∙◌, [], arith, rules, refl, sym}
 use Rattle.std.proofs.lemmas.Iterator.Consumers.{YieldsList-end}
 use Rattle.std.proofs.lemmas.Iterator.Adapters.{YieldsList-from_vec}
 use Rattle.std.proofs.lemmas.List.{map-id}
-use Rattle.bor_chains.specs.declared.crossed.Crossing.{Crossing}
-use Rattle.bor_chains.specs.Trail.{FollowsTo}
 use Rattle.bor_records.proofs.KeptLaws.{kept_then, lasts_then, same_lasts}
 use Rattle.bor_chains.proofs.Trails.{to_none, to_next}
 use Rattle.bor_chains.proofs.trail.Trail.follow_all.Goals as goal
@@ -41,4 +39,4 @@ returns-clause-walked g c = λ m e k beside whole.
     let gives = c.into_iter-crossing-iterator.ensures.into_iter_gives in
     let all = YieldsList-end (YieldsList-from_vec c.args.crossings.items gives.0 (gives.1 ∙ c.args.crossings.ok.0)) c.loop-crossing.yielded c.loop-crossing.crossing-iterator c.loop-crossing.yielded_by c.next.result c.next.new.self c.in-None.is c.next.ensures.steps in
     let r = c.loop-crossing.invariant.walked m e k beside whole in
-    (r.0, subst (λ (cs : List Crossing). FollowsTo s cs (length cs) c.args.self.now c.loop-crossing.self) (sym (map-id c.loop-crossing.yielded) ∙ all.0) r.1)
+    (r.0, rw (sym (map-id c.loop-crossing.yielded) ∙ all.0) at r.1)

@@ -1,7 +1,7 @@
 use Rattle.std.proofs.Common.{length}
 use Rattle.std.proofs.lemmas.List.Sorted.{Contains-permutation, IsPermutation-sym}
 use Rattle.bor_chains.specs.Crossings.{AreCrossings}
-use Rattle.bor_chains.proofs.Levels.{level_step}
+use Rattle.bor_chains.proofs.Trails.{level_step}
 use Rattle.bor_chains.proofs.trail.Trail.go_on.Goals as goal
 
 pub returns-clause-walked : goal.returns-clause-walked

@@ -1,5 +1,4 @@
-use Rattle.std.proofs.Common.{◌≡◌, true, false, Contains, Some, sym, ◌∙◌, refl, subst, inl, inr}
-use Rattle.bor_records.specs.declared.links.node.Node.{Node}
+use Rattle.std.proofs.Common.{◌≡◌, true, false, Some, sym, ◌∙◌, refl, inl, inr}
 use Rattle.bor_records.specs.declared.links.node.NodeInfo.TheVariants as infos
 use Rattle.bor_chains.specs.declared.marks.Mark.TheVariants.{Middle}
 use Rattle.bor_chains.specs.Trail.{step_by}
@@ -8,12 +7,12 @@ use Rattle.bor_chains.proofs.trail.Trail.mark_class.Goals as goal
 
 pub returns-then-has-clause-walked : goal.returns-then-has-clause-walked
 returns-then-has-clause-walked g c = λ m e k.
-    inl (subst (λ (n : Node). Contains c.args.self.now.marks (record { node = n; mark = Middle })) c.in_ok-copy.ensures (c.has.ensures.0 c.if-has.true), refl)
+    inl (rw c.in_ok-copy.ensures at (c.has.ensures.0 c.if-has.true), refl)
 
 pub returns-clause-walked : goal.returns-clause-walked
 returns-clause-walked g c = λ m e k. inr (
   (λ h.
-      let t : c.has.result ≡ true = c.has.ensures.1 (subst (λ (n : Node). Contains c.args.self.now.marks (record { node = n; mark = Middle })) (sym c.in_ok-copy.ensures) h) in
+      let t : c.has.result ≡ true = c.has.ensures.1 (rw (← c.in_ok-copy.ensures) at h) in
       let no : true ≡ false = sym t ∙ c.if-has.false in absurd cc),
   gives_class (g.S.LinkSource.shown m) c.args.crossing.now.link.party Middle c.in-Ok.nodes.items (Some (step_by c.args.crossing.now (infos.Entity true))) c.args.self.now c.give.new.self (c.in-Ok.ensures.reads.answer m e k) c.in_ok-give.ensures.gives,
 )

@@ -1,5 +1,0 @@
-use Rattle.bor_chains.proofs.OneEvidence.{evidence_is_one}
-use Rattle.bor_chains.proofs.laws.evidence_is_one.Goals as goal
-
-pub returns : goal.returns
-returns c = evidence_is_one

@@ -1,5 +1,0 @@
-use Rattle.bor_chains.proofs.Past.{later_statements_change_no_past}
-use Rattle.bor_chains.proofs.laws.later_statements_change_no_past.Goals as goal
-
-pub returns : goal.returns
-returns c = later_statements_change_no_past
