@@ -1,14 +1,14 @@
 -- A change of a register without files makes the changed register without files.
-use Rattle.std.proofs.Common.{◌≡◌, ℕ, ℤ, ◌+◌, ◌<◌, Bool, true, false, List, [], ◌∷◌, ◌++◌, map, length, option_map, refl, ap, ap₂, ◌∙◌, subst, sym}
-use Rattle.std.specs.Prelude.{if◌then◌else◌, ◌==◌, ◌||◌}
-use Rattle.std.proofs.lemmas.List.{map-append}
-use Rattle.bor_terms.specs.Texts.{is_below, is_same}
+use Rattle.std.proofs.Common.{◌≡◌, ℕ, ℤ, ◌<◌, Bool, List, [], ◌∷◌, ◌++◌, map, option_map, refl, ap, ◌∙◌, subst, sym, arith}
+use Rattle.std.specs.Prelude.{◌||◌}
+use Rattle.std.proofs.lemmas.List.{map-append, length-map}
+use Rattle.bor_terms.specs.Texts.{is_same}
 use Rattle.bods_read.specs.declared.statement.Statement.{Statement}
 use Rattle.bor_records.specs.Admission.{Live}
 use Rattle.bor_register.specs.Limits.{filings_limit}
 use Rattle.bor_register.specs.Live.{AreNew, accepted}
 use Rattle.bor_register.specs.Register.{Register, filing_keyed, filings_of, is_agents_token, new_member, with_filings, with_member, with_token}
-use Rattle.bor_register.specs.Withdrawal.{as_withdrawn, with_withdrawn}
+use Rattle.bor_register.specs.Withdrawal.{with_withdrawn}
 use Rattle.bor_register.specs.declared.filing.AcceptedFiling.{AcceptedFiling}
 use Rattle.bor_register.specs.declared.member.Member.{Member}
 use Rattle.bor_register.specs.Bare.{bare_register, member_without_files, without_file, without_files}
@@ -18,55 +18,34 @@ use Rattle.bor_register.proofs.BareReads.{count_is, enrolled-bare, keyed-bare, l
 
 with_filings-bare : (name : List ℕ) (fs : List AcceptedFiling) (ms : List Member) → with_filings name (map without_file fs) (without_files ms) ≡ without_files (with_filings name fs ms)
 with_filings-bare name fs [] = refl
-with_filings-bare name fs (m ∷ ms) =
-    elim (is_same m.name name) as (λ b. (if b then record (member_without_files m) { filings = map without_file fs } ∷ without_files ms else member_without_files m ∷ with_filings name (map without_file fs) (without_files ms)) ≡ without_files (if b then record m { filings = fs } ∷ ms else m ∷ with_filings name fs ms)) [
-      | true ↦ refl
-      | false ↦ ap (λ (l : List Member). member_without_files m ∷ l) (with_filings-bare name fs ms)
-    ]
+with_filings-bare name fs (m ∷ ms) = grind (arith, with_filings-bare name fs ms)
 
 pub filed-bare : (agent key : List ℕ) (due : ℤ) (bytes : List ℕ) (statements : List Statement) (r : Register) → with_filing agent key due [] statements (bare_register r) ≡ bare_register (with_filing agent key due bytes statements r)
 filed-bare agent key due bytes statements r =
     let own = filings_of agent r.members in
     let f = accepted own key due bytes statements in
-    let number : length (filings_of agent (without_files r.members)) ≡ length own = count_is agent r.members in
-    let same : accepted (filings_of agent (without_files r.members)) key due [] statements ≡ without_file f =
-    ap (λ (n : ℕ). let g : AcceptedFiling = record { number = n + 1; key = key; due = due; withdrawn = false; bytes = []; statements = statements } in g) number in
-    let all : filings_of agent (without_files r.members) ++ accepted (filings_of agent (without_files r.members)) key due [] statements ∷ [] ≡ map without_file (own ++ f ∷ []) =
-    ap₂ (λ (fs : List AcceptedFiling) (g : AcceptedFiling). fs ++ g ∷ []) (filings_of-bare agent r.members) same ∙ sym (map-append without_file own (f ∷ [])) in
-    ap (λ (ms : List Member). let q : Register = record r { members = ms } in q)
-    (ap (λ (fs : List AcceptedFiling). with_filings agent fs (without_files r.members)) all ∙ with_filings-bare agent (own ++ f ∷ []) r.members)
+    let members : (with_filing agent key due [] statements (bare_register r)).members ≡ (bare_register (with_filing agent key due bytes statements r)).members =
+    rw (filings_of-bare agent r.members, length-map own without_file, ← map-append without_file own (f ∷ [])) (with_filings-bare agent (own ++ f ∷ []) r.members) in
+    λ i. record (bare_register r) { members = members i }
 
 with_withdrawn-bare : (number : ℕ) (fs : List AcceptedFiling) → with_withdrawn number (map without_file fs) ≡ map without_file (with_withdrawn number fs)
 with_withdrawn-bare number [] = refl
-with_withdrawn-bare number (f ∷ fs) =
-    elim (f.number == number) as (λ b. (if b then as_withdrawn (without_file f) ∷ map without_file fs else without_file f ∷ with_withdrawn number (map without_file fs)) ≡ map without_file (if b then as_withdrawn f ∷ fs else f ∷ with_withdrawn number fs)) [
-      | true ↦ refl
-      | false ↦ ap (λ (l : List AcceptedFiling). without_file f ∷ l) (with_withdrawn-bare number fs)
-    ]
+with_withdrawn-bare number (f ∷ fs) = grind (arith, with_withdrawn-bare number fs)
 
 pub withdrawn-bare : (agent : List ℕ) (number : ℕ) (ms : List Member) → with_filings agent (with_withdrawn number (filings_of agent (without_files ms))) (without_files ms) ≡ without_files (with_filings agent (with_withdrawn number (filings_of agent ms)) ms)
 withdrawn-bare agent number ms =
-    ap (λ (fs : List AcceptedFiling). with_filings agent fs (without_files ms)) (ap (with_withdrawn number) (filings_of-bare agent ms) ∙ with_withdrawn-bare number (filings_of agent ms))
-    ∙ with_filings-bare agent (with_withdrawn number (filings_of agent ms)) ms
+    rw (filings_of-bare agent ms, with_withdrawn-bare number (filings_of agent ms)) (with_filings-bare agent (with_withdrawn number (filings_of agent ms)) ms)
 
 with_member-bare : (new : Member) (ms : List Member) → with_member (member_without_files new) (without_files ms) ≡ without_files (with_member new ms)
 with_member-bare new [] = refl
-with_member-bare new (m ∷ ms) =
-    elim (is_below m.name new.name) as (λ b. (if b then member_without_files m ∷ with_member (member_without_files new) (without_files ms) else member_without_files new ∷ member_without_files m ∷ without_files ms) ≡ without_files (if b then m ∷ with_member new ms else new ∷ m ∷ ms)) [
-      | true ↦ ap (λ (l : List Member). member_without_files m ∷ l) (with_member-bare new ms)
-      | false ↦ refl
-    ]
+with_member-bare new (m ∷ ms) = grind (arith, with_member-bare new ms)
 
 pub enrolled_with-bare : (agent token : List ℕ) (r : Register) → with_agent agent token (bare_register r) ≡ bare_register (with_agent agent token r)
 enrolled_with-bare agent token r = ap (λ (ms : List Member). let q : Register = record r { members = ms } in q) (with_member-bare (new_member agent token) r.members)
 
 with_token-bare : (agent token : List ℕ) (ms : List Member) → with_token agent token (without_files ms) ≡ without_files (with_token agent token ms)
 with_token-bare agent token [] = refl
-with_token-bare agent token (m ∷ ms) =
-    elim (is_same m.name agent) as (λ b. (if b then record (member_without_files m) { token = token } ∷ without_files ms else member_without_files m ∷ with_token agent token (without_files ms)) ≡ without_files (if b then record m { token = token } ∷ ms else m ∷ with_token agent token ms)) [
-      | true ↦ refl
-      | false ↦ ap (λ (l : List Member). member_without_files m ∷ l) (with_token-bare agent token ms)
-    ]
+with_token-bare agent token (m ∷ ms) = grind (arith, with_token-bare agent token ms)
 
 pub renewed-bare : (agent token : List ℕ) (r : Register) → with_renewal agent token (bare_register r) ≡ bare_register (with_renewal agent token r)
 renewed-bare agent token r = ap (λ (ms : List Member). let q : Register = record r { members = ms } in q) (with_token-bare agent token r.members)

@@ -1,6 +1,7 @@
 -- All reads of a register, but of the files themselves, are the same of one without files.
-use Rattle.std.proofs.Common.{◌≡◌, ℕ, ℤ, Bool, true, false, List, [], ◌∷◌, map, length, Option, Some, None, option_map, suc, refl, ap, ap₂, cond, ◌∙◌}
-use Rattle.std.specs.Prelude.{filter, if◌then◌else◌, ◌||◌}
+use Rattle.std.proofs.Common.{◌≡◌, ℕ, ℤ, Bool, List, [], ◌∷◌, map, length, Option, Some, option_map, refl, ap, ◌∙◌, arith}
+use Rattle.std.proofs.lemmas.List.{length-map}
+use Rattle.std.specs.Prelude.{if◌then◌else◌, ◌||◌}
 use Rattle.bor_terms.specs.Texts.{is_same}
 use Rattle.bor_records.specs.Admission.{last_of}
 use Rattle.bor_records.specs.Settling.{has_id}
@@ -8,17 +9,16 @@ use Rattle.bor_records.specs.declared.links.node.Node.{Node}
 use Rattle.bor_records.specs.Links.Rows.{shown_of}
 use Rattle.bor_records.specs.Links.Series.{open_at}
 use Rattle.bor_register.specs.Live.{live_of}
-use Rattle.bor_register.specs.Publication.{agent_line, is_published, line_of, published, published_count}
+use Rattle.bor_register.specs.Publication.{agent_line, line_of, published, published_count}
 use Rattle.bor_register.specs.Register.{Register, agent_with, caller_of, filing_keyed, filings_of, is_enrolled}
 use Rattle.bor_register.specs.Rows.{rows_of, visible}
 use Rattle.bor_register.specs.Seen.{seen_at}
 use Rattle.bor_register.specs.Withdrawal.{has_successor}
 use Rattle.bor_register.specs.declared.caller.Caller.TheVariants.{Registrar, Agent}
-use Rattle.bor_register.specs.declared.agents.AgentLine.{AgentLine}
 use Rattle.bor_register.specs.declared.filing.AcceptedFiling.{AcceptedFiling}
 use Rattle.bor_register.specs.declared.member.Member.{Member}
 use Rattle.bor_register.specs.Bare.{bare_register, without_file, without_files}
-use Rattle.bor_register.proofs.WithoutFiles.{filings_of-bare, has_successor-bare, lines-bare, live_of-bare, published-bare, rows_of-bare, visible-bare}
+use Rattle.bor_register.proofs.WithoutFiles.{filings_of-bare, has_successor-bare, live_of-bare, map_bare, published-bare, rows_of-bare, visible-bare}
 
 pub enrolled-bare : (name : List ℕ) (ms : List Member) → is_enrolled name (without_files ms) ≡ is_enrolled name ms
 enrolled-bare name [] = refl
@@ -33,30 +33,16 @@ caller-bare token r = ap (λ (o : Option (List ℕ)). if is_same r.registrar tok
 
 pub keyed-bare : (key : List ℕ) (fs : List AcceptedFiling) → filing_keyed key (map without_file fs) ≡ option_map without_file (filing_keyed key fs)
 keyed-bare key [] = refl
-keyed-bare key (f ∷ fs) =
-    elim (is_same f.key key) as (λ b. (if b then Some (without_file f) else filing_keyed key (map without_file fs)) ≡ option_map without_file (if b then Some f else filing_keyed key fs)) [
-      | true ↦ refl
-      | false ↦ keyed-bare key fs
-    ]
-
-line-bare : (day : ℤ) (o : Option AcceptedFiling) → option_map (line_of day) (option_map without_file o) ≡ option_map (line_of day) o
-line-bare day None = refl
-line-bare day (Some f) = refl
+keyed-bare key (f ∷ fs) = grind (arith, keyed-bare key fs)
 
 pub line_is : (agent key : List ℕ) (day : ℤ) (ms : List Member) → option_map (line_of day) (filing_keyed key (filings_of agent (without_files ms))) ≡ option_map (line_of day) (filing_keyed key (filings_of agent ms))
-line_is agent key day ms =
-    ap (λ (fs : List AcceptedFiling). option_map (line_of day) (filing_keyed key fs)) (filings_of-bare agent ms)
-    ∙ ap (option_map (line_of day)) (keyed-bare key (filings_of agent ms)) ∙ line-bare day (filing_keyed key (filings_of agent ms))
-
-long-bare : (fs : List AcceptedFiling) → length (map without_file fs) ≡ length fs
-long-bare [] = refl
-long-bare (f ∷ fs) = ap (λ n. suc n) (long-bare fs)
+line_is agent key day ms = grind (arith, filings_of-bare agent ms, keyed-bare key (filings_of agent ms))
 
 pub count_is : (agent : List ℕ) (ms : List Member) → length (filings_of agent (without_files ms)) ≡ length (filings_of agent ms)
-count_is agent ms = ap (λ (fs : List AcceptedFiling). length fs) (filings_of-bare agent ms) ∙ long-bare (filings_of agent ms)
+count_is agent ms = ap (λ (fs : List AcceptedFiling). length fs) (filings_of-bare agent ms) ∙ length-map (filings_of agent ms) without_file
 
 pub lines_are : (agent : List ℕ) (day : ℤ) (ms : List Member) → map (line_of day) (filings_of agent (without_files ms)) ≡ map (line_of day) (filings_of agent ms)
-lines_are agent day ms = ap (map (line_of day)) (filings_of-bare agent ms) ∙ lines-bare day (filings_of agent ms)
+lines_are agent day ms = ap (map (line_of day)) (filings_of-bare agent ms) ∙ map_bare (line_of day) (λ f. refl) (filings_of agent ms)
 
 pub live_is : (agent : List ℕ) (ms : List Member) → live_of (filings_of agent (without_files ms)) ≡ live_of (filings_of agent ms)
 live_is agent ms = ap live_of (filings_of-bare agent ms) ∙ live_of-bare (filings_of agent ms)
@@ -87,13 +73,8 @@ published_are r = published-bare r.day r.members
 
 published_count-bare : (day : ℤ) (fs : List AcceptedFiling) → published_count day (map without_file fs) ≡ published_count day fs
 published_count-bare day [] = refl
-published_count-bare day (f ∷ fs) =
-    elim (is_published day f) as (λ b. length (cond b (without_file f ∷ filter (is_published day) (map without_file fs)) (filter (is_published day) (map without_file fs))) ≡ length (cond b (f ∷ filter (is_published day) fs) (filter (is_published day) fs))) [
-      | true ↦ ap (λ n. suc n) (published_count-bare day fs)
-      | false ↦ published_count-bare day fs
-    ]
+published_count-bare day (f ∷ fs) = grind (arith, published_count-bare day fs)
 
 pub agents_are : (day : ℤ) (ms : List Member) → map (agent_line day) (without_files ms) ≡ map (agent_line day) ms
 agents_are day [] = refl
-agents_are day (m ∷ ms) =
-    ap₂ (λ (n : ℕ) (l : List AgentLine). let line : AgentLine = record { agent = m.name; published = n } in line ∷ l) (published_count-bare day m.filings) (agents_are day ms)
+agents_are day (m ∷ ms) = grind (arith, published_count-bare day m.filings, agents_are day ms)

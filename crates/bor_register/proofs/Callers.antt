@@ -1,31 +1,18 @@
 -- Who has a token of the register.
-use Rattle.std.proofs.Common.{◌≡◌, ℕ, List, [], ◌∷◌, Bool, true, false, Option, Some, None, option_map, refl, arith}
-use Rattle.std.specs.Prelude.{is_some, if◌then◌else◌, ◌||◌}
-use Rattle.bor_terms.specs.Texts.{is_same}
+use Rattle.std.proofs.Common.{◌≡◌, ℕ, List, [], ◌∷◌, true, Some, refl, arith}
+use Rattle.std.specs.Prelude.{is_some}
 use Rattle.bor_terms.proofs.Texts.{same_refl}
 use Rattle.bor_register.specs.declared.member.Member.{Member}
-use Rattle.bor_register.specs.declared.caller.Caller.TheVariants.{Registrar, Agent}
+use Rattle.bor_register.specs.declared.caller.Caller.TheVariants.{Agent}
 use Rattle.bor_register.specs.Register.{Register, agent_with, caller_of, is_agents_token, is_taken, is_enrolled}
 
 agents_token : (token : List ℕ) (ms : List Member) → is_agents_token token ms ≡ is_some (agent_with token ms)
 agents_token token [] = refl
-agents_token token (m ∷ ms) = by_test (is_same m.token token) (agents_token token ms)
-  where
-    by_test : (b : Bool) → is_agents_token token ms ≡ is_some (agent_with token ms) → (b || is_agents_token token ms) ≡ is_some (if b then Some m.name else agent_with token ms)
-    by_test true h = refl
-    by_test false h = h
-
-some_agent : (o : Option (List ℕ)) → is_some o ≡ is_some (option_map Agent o)
-some_agent None = refl
-some_agent (Some name) = refl
-
-taken-by : (token : List ℕ) (r : Register) (b : Bool) → (b || is_agents_token token r.members) ≡ is_some (if b then Some Registrar else option_map Agent (agent_with token r.members))
-taken-by token r true = refl
-taken-by token r false = grind (arith, agents_token token r.members, some_agent (agent_with token r.members))
+agents_token token (m ∷ ms) = grind (arith, agents_token token ms)
 
 -- a token is taken exactly where somebody has it
 pub taken-caller : (token : List ℕ) (r : Register) → is_taken token r ≡ is_some (caller_of token r)
-taken-caller token r = taken-by token r (is_same r.registrar token)
+taken-caller token r = grind (arith, agents_token token r.members)
 
 agent_is_enrolled : (token name : List ℕ) (ms : List Member) → agent_with token ms ≡ Some name → is_enrolled name ms ≡ true
 agent_is_enrolled token name [] h = cc

@@ -7,7 +7,6 @@ pub mod LiveStatements
 pub mod Additions
 pub mod Journals
 pub mod SeenRows
-pub mod Withdrawals
 pub mod Examples
 pub mod OneAgent
 pub mod WithoutFiles

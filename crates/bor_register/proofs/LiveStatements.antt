@@ -20,5 +20,4 @@ has_id-live id due (s ∷ ss) = ap (λ b. is_same s.id id || b) (has_id-live id 
 pub has_id-live_of : (id : List ℕ) (fs : List AcceptedFiling) → has_id id (live_of fs) ≡ list_any (λ f. list_any (λ s. is_same s.id id) f.statements) fs
 has_id-live_of id [] = refl
 has_id-live_of id (f ∷ fs) =
-    list_any-append (λ l. is_same l.statement.id id) (map (as_live f.due) f.statements) (live_of fs)
-    ∙ ap (λ b. b || has_id id (live_of fs)) (has_id-live id f.due f.statements) ∙ ap (λ b. list_any (λ s. is_same s.id id) f.statements || b) (has_id-live_of id fs)
+    rw (list_any-append (λ l. is_same l.statement.id id) (map (as_live f.due) f.statements) (live_of fs), has_id-live id f.due f.statements, has_id-live_of id fs) refl

@@ -1,6 +1,5 @@
 -- Laws of the members of a register.
-use Rattle.std.proofs.Common.{◌≡◌, ℕ, suc, List, [], ◌∷◌, length, refl, ap, arith, false, true}
-use Rattle.std.specs.Prelude.{if◌then◌else◌}
+use Rattle.std.proofs.Common.{◌≡◌, ℕ, List, [], ◌∷◌, length, refl, arith, false, true}
 use Rattle.bor_terms.specs.Texts.{is_same}
 use Rattle.bor_terms.proofs.Texts.{same_is}
 use Rattle.bor_register.specs.declared.member.Member.{Member}
@@ -38,20 +37,14 @@ other_filings name other fs (m ∷ ms) h = grind (arith, other_filings name othe
 
 pub long-with_filings : (name : List ℕ) (fs : List AcceptedFiling) (ms : List Member) → length (with_filings name fs ms) ≡ length ms
 long-with_filings name fs [] = refl
-long-with_filings name fs (m ∷ ms) =
-    elim (is_same m.name name) as (λ b. length (if b then record m { filings = fs } ∷ ms else m ∷ with_filings name fs ms) ≡ length (m ∷ ms)) [ true ↦ refl | false ↦ ap suc (long-with_filings name fs ms) ]
+long-with_filings name fs (m ∷ ms) = grind (arith, long-with_filings name fs ms)
 
 -- ---- an agent's token is another
 
 pub filings-with_token : (name agent token : List ℕ) (ms : List Member) → filings_of name (with_token agent token ms) ≡ filings_of name ms
 filings-with_token name agent token [] = refl
-filings-with_token name agent token (m ∷ ms) =
-    elim (is_same m.name agent) as (λ b. filings_of name (if b then record m { token = token } ∷ ms else m ∷ with_token agent token ms) ≡ filings_of name (m ∷ ms)) [
-      | true ↦ refl
-      | false ↦ ap (λ (fs : List AcceptedFiling). if is_same m.name name then m.filings else fs) (filings-with_token name agent token ms)
-    ]
+filings-with_token name agent token (m ∷ ms) = grind (arith, filings-with_token name agent token ms)
 
 pub long-with_token : (name token : List ℕ) (ms : List Member) → length (with_token name token ms) ≡ length ms
 long-with_token name token [] = refl
-long-with_token name token (m ∷ ms) =
-    elim (is_same m.name name) as (λ b. length (if b then record m { token = token } ∷ ms else m ∷ with_token name token ms) ≡ length (m ∷ ms)) [ true ↦ refl | false ↦ ap suc (long-with_token name token ms) ]
+long-with_token name token (m ∷ ms) = grind (arith, long-with_token name token ms)

@@ -2,10 +2,9 @@ pub mod Lists
 pub mod Sited
 pub mod Searched
 pub mod Withdrawn
-pub mod Rows
 pub mod Grown
 pub mod Indexed
-pub mod Built
+pub mod Maps
 pub mod Sighted
 pub mod Told
 pub mod Succeeded

@@ -43,12 +43,10 @@ pub agent_added : (viewer : List ℕ) (day : ℤ) (ms : List Member) (i : ℕ) (
 agent_added viewer day ms i m front whole lt is h =
     let more = drop_more ms i m lt ∙ ap (λ n. n ∷ drop (i + 1) ms) (sym is) in
     ap (λ rows. (front ++ rows) ++ visible viewer day (drop (i + 1) ms)) (asked_rows-none (visible_in viewer day m.name m.filings))
-    ∙ append_assoc front (visible_in viewer day m.name m.filings) (visible viewer day (drop (i + 1) ms))
-    ∙ ap (λ ns. front ++ visible viewer day ns) (sym more) ∙ h
+    ∙ append_assoc front (visible_in viewer day m.name m.filings) (visible viewer day (drop (i + 1) ms)) ∙ (rw more at h)
 
 pub published_added : (day : ℤ) (ms : List Member) (i : ℕ) (m : Member) (front whole : List Outward) → i < length ms → m ≡ get_or ms i m →
     front ++ published day (drop i ms) ≡ whole → (front ++ outwards_of day m.name m.filings) ++ published day (drop (i + 1) ms) ≡ whole
 published_added day ms i m front whole lt is h =
     let more = drop_more ms i m lt ∙ ap (λ n. n ∷ drop (i + 1) ms) (sym is) in
-    append_assoc front (outwards_of day m.name m.filings) (published day (drop (i + 1) ms))
-    ∙ ap (λ ns. front ++ published day ns) (sym more) ∙ h
+    append_assoc front (outwards_of day m.name m.filings) (published day (drop (i + 1) ms)) ∙ (rw more at h)

@@ -1,10 +1,10 @@
 -- The filings of an agent, found among members in the order of their names.
-use Rattle.std.proofs.Common.{◌≡◌, ◌<◌, ◌+◌, ℕ, zero, suc, true, false, Bool, Ok, Err, List, [], ◌∷◌, length, get_or, sym, ap, ◌∙◌, refl, subst, arith, inl, inr}
+use Rattle.std.proofs.Common.{◌≡◌, ◌<◌, ◌+◌, ℕ, zero, suc, true, false, Ok, Err, List, [], ◌∷◌, length, get_or, sym, ap, ◌∙◌, refl, subst, arith, inl, inr}
 use Rattle.std.specs.List.Sorted.{IsBinarySearchResult, IsNonDecreasingBy, IsPartitionPoint, IsSearchInRange}
 use Rattle.std.specs.Ordering.{is_lt, nat_cmp, ordering_index, ordering_reverse}
 use Rattle.std.specs.declared.cmp.Ordering.TheVariants.{Less, Greater}
 use Rattle.std.specs.Cmp.Lexicographic.{slice_cmp}
-use Rattle.std.proofs.lemmas.Bool.{cases_lt}
+use Rattle.std.proofs.lemmas.Bool.{cases_lt, false_from_ne_true}
 use Rattle.std.proofs.lemmas.Cmp.{nat_list_cmp_total}
 use Rattle.std.proofs.lemmas.List.Sorted.{searchable_from_sorted}
 use Rattle.std.proofs.lemmas.Map.Lookups.{exact_bytes}
@@ -24,11 +24,8 @@ above_at low (m ∷ ms) (suc j) d h lt = above_at low ms j d h.1 (omega (arith, 
 sorted : (ms : List Member) (i j : ℕ) (d : Member) → IsOrdered ms → i < j → j < length ms → is_below (get_or ms j d).name (get_or ms i d).name ≡ false
 sorted [] i j d o up lt = absurd (let no : ⊥ = omega (arith, lt) in no)
 sorted (m ∷ ms) i zero d o up lt = absurd (let no : ⊥ = omega (arith, up) in no)
-sorted (m ∷ ms) zero (suc j) d o up lt = not_both m.name (get_or ms j d).name (is_below (get_or ms j d).name m.name) refl (above_at m.name ms j d o.0 (omega (arith, lt)))
-  where
-    not_both : (a b : List ℕ) (t : Bool) → is_below b a ≡ t → is_below a b ≡ true → is_below b a ≡ false
-    not_both a b false e h = e
-    not_both a b true e h = let no : true ≡ false = sym (below_trans a b a h e) ∙ below_irrefl a in absurd cc
+sorted (m ∷ ms) zero (suc j) d o up lt =
+    grind (arith, above_at m.name ms j d o.0 (omega (arith, lt)), below_trans m.name (get_or ms j d).name m.name, below_irrefl m.name)
 sorted (m ∷ ms) (suc i) (suc j) d o up lt = sorted ms i j d o.1 (omega (arith, up)) (omega (arith, lt))
 
 searchable : (ms : List Member) (name : List ℕ) → IsOrdered ms → IsNonDecreasingBy (λ (m : Member). ordering_index (slice_cmp nat_cmp m.name name)) ms
@@ -44,11 +41,8 @@ at_place name (m ∷ ms) (suc i) d o lt e =
 
 nowhere : (name : List ℕ) (ms : List Member) → ((i : ℕ) (d : Member) → i < length ms → (get_or ms i d).name ≡ name → ⊥) → [] ≡ filings_of name ms
 nowhere name [] gone = refl
-nowhere name (m ∷ ms) gone = rw (other (is_same m.name name) refl) (nowhere name ms (λ i d lt e. gone (suc i) d (omega (arith, lt)) e))
-  where
-    other : (b : Bool) → is_same m.name name ≡ b → is_same m.name name ≡ false
-    other false e = e
-    other true e = absurd (gone 0 m (omega arith) (same_is m.name name e))
+nowhere name (m ∷ ms) gone =
+    rw (false_from_ne_true (is_same m.name name) (λ e. gone 0 m (omega arith) (same_is m.name name e))) (nowhere name ms (λ i d lt e. gone (suc i) d (omega (arith, lt)) e))
 
 -- ---- what a search answers
 

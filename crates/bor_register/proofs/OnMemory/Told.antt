@@ -1,7 +1,9 @@
 -- Facts that follow from an answer.
-use Rattle.std.proofs.Common.{◌≡◌, ℕ, ℤ, List, Result, Ok, Err, IfOk, refl, ap, sym, subst}
+use Rattle.std.proofs.Common.{◌≡◌, ℕ, ℤ, List, Result, Ok, Err, IfOk, refl, sym, subst, arith}
 use Rattle.std.specs.Prelude.{IfErr, MatchResult, OnErr, OnOk}
 use Rattle.std.specs.Result.{result_map_both}
+use Rattle.std.proofs.lemmas.Result.{MatchResult-weaker}
+pub use Rattle.std.proofs.lemmas.Result.{IfOk-weaker as told_then}
 use Rattle.bor_records.specs.Links.Shown.{Shown}
 use Rattle.bor_records.specs.Promises.{counted}
 use Rattle.bor_records.specs.Links.Relationships.{RowsOn, shown_on}
@@ -10,18 +12,6 @@ use Rattle.bor_register.specs.Rows.{visible}
 use Rattle.bor_register.specs.Seen.{seen_at}
 use Rattle.bor_register.specs.declared.fault.StoreFault.{StoreFault}
 use Rattle.bor_register.specs.declared.fault.StoreFault.TheVariants.{Memory}
-
-pub told_then : {T F : Type 0} (r : Result T F) (P Q : T → Type 0) → ((x : T) → P x → Q x) → IfOk r P → IfOk r Q
-told_then (Ok x) P Q f h = f x h
-told_then (Err e) P Q f h = tt
-
-pub told_only : {T F : Type 0} (r : Result T F) (P : T → Type 0) (Q : F → Type 0) → MatchResult r P Q → IfOk r P
-told_only (Ok x) P Q h = h
-told_only (Err e) P Q h = tt
-
-pub told_always : {T F : Type 0} {P : Type 0} (r : Result T F) → P → IfOk r (λ x. P)
-told_always (Ok x) h = h
-told_always (Err e) h = tt
 
 -- what holds whether or not a call failed
 pub either_way : {T F : Type 0} (r : Result T F) (P Q R : Type 0) → OnOk r P → OnErr r Q → (P → R) → (Q → R) → R
@@ -33,7 +23,7 @@ pub told_seen : {X F : Type 0} (result : Result X F) (P : Shown → X → Type 0
     → MatchResult result (P (shown_on x)) (λ fault. Unit {0}) → IfOk result (P (seen_at viewer day was.register))
 told_seen result P viewer day x now was is kept h =
     subst (λ (k : Holding). IfOk result (P (seen_at viewer day k.register))) kept
-    (told_only result _ _ (subst (λ (y : RowsOn). MatchResult result (P (shown_on y)) (λ fault. Unit {0})) is h))
+    (MatchResult-weaker result (subst (λ (y : RowsOn). MatchResult result (P (shown_on y)) (λ fault. Unit {0})) is h) (λ x told. told) (λ fault none. tt))
 
 -- ---- an error that is told as want of memory
 
@@ -46,5 +36,4 @@ told_fault (Ok x) told is = subst (λ t. IfErr t (λ fault. fault ≡ Memory)) (
 told_fault (Err e) told is = subst (λ t. IfErr t (λ fault. fault ≡ Memory)) (sym is) refl
 
 pub told_count : {T F : Type 0} (answer : Result T F) (told : Result T StoreFault) (faults : ℕ) → told ≡ result_map_both (λ x. x) (λ _. Memory) answer → counted answer faults ≡ counted told faults
-told_count (Ok x) told faults is = ap (λ t. counted t faults) (sym is)
-told_count (Err e) told faults is = ap (λ t. counted t faults) (sym is)
+told_count answer told faults is = grind (arith, is)

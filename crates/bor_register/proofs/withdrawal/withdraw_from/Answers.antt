@@ -2,7 +2,7 @@ use Rattle.std.proofs.Common.{◌<◌, length, ◌∙◌, ap, set}
 use Rattle.std.proofs.lemmas.List.{get_or_default}
 use Rattle.bor_register.specs.declared.filing.AcceptedFiling.{AcceptedFiling}
 use Rattle.bor_register.specs.Withdrawal.{with_withdrawn}
-use Rattle.bor_register.proofs.Withdrawals.{withdrawn_here}
+use Rattle.bor_register.proofs.Places.{withdrawn_here}
 use Rattle.bor_register.proofs.withdrawal.withdraw_from.Goals as goal
 
 pub returns-then-as_slice-i : goal.returns-then-as_slice-i

@@ -1,5 +1,5 @@
 use Rattle.std.proofs.Common.{◌∙◌, sym}
-use Rattle.bor_register.proofs.OnMemory.Built.{ordered_more, ordered_one}
+use Rattle.bor_register.proofs.OnMemory.Maps.{ordered_more, ordered_one}
 use Rattle.bor_register.proofs.memory.list_keep.are_ordered.Goals as goal
 
 pub loop-i-init : goal.loop-i-init

@@ -1,5 +1,5 @@
 use Rattle.std.proofs.Common.{refl}
-use Rattle.bor_register.proofs.OnMemory.Built.{index_joined_more}
+use Rattle.bor_register.proofs.OnMemory.Maps.{index_joined_more}
 use Rattle.bor_register.proofs.memory.list_keep.index_of.Goals as goal
 
 pub loop-member-preserved : goal.loop-member-preserved

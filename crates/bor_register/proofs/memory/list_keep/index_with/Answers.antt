@@ -1,4 +1,4 @@
-use Rattle.bor_register.proofs.OnMemory.Built.{index_filed_more, index_none_filed}
+use Rattle.bor_register.proofs.OnMemory.Maps.{index_filed_more, index_none_filed}
 use Rattle.bor_register.proofs.memory.list_keep.index_with.Goals as goal
 
 pub loop-i-init : goal.loop-i-init

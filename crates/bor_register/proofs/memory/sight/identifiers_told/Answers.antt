@@ -1,15 +1,12 @@
-use Rattle.std.proofs.Common.{◌∙◌, Option, Some, None, ap, sym, option_map, Bor}
-use Rattle.bods_read.specs.declared.statement.Statement.{Statement}
+use Rattle.std.proofs.Common.{◌∙◌, Some, None}
 use Rattle.bor_register.specs.Memory.Sighted.{rows_in_sight}
 use Rattle.bor_register.proofs.OnMemory.Sighted.{identifiers_open}
 use Rattle.bor_register.proofs.memory.sight.identifiers_told.Goals as goal
 
 pub returns-in-Some : goal.returns-in-Some
 returns-in-Some c =
-    let sight = c.args.sight.now in
-    c.identifiers_stated.ensures ∙ identifiers_open sight.day (rows_in_sight sight) c.args.node.now (Some c.in-Some.statement.now) (ap (λ (o : Option (Bor Statement)). option_map (λ s. s.now) o) (sym c.in-Some.is) ∙ c.open_statement.ensures)
+    c.identifiers_stated.ensures ∙ identifiers_open c.args.sight.now.day (rows_in_sight c.args.sight.now) c.args.node.now (Some c.in-Some.statement.now) (rw c.in-Some.is at c.open_statement.ensures)
 
 pub returns-in-None : goal.returns-in-None
 returns-in-None c =
-    let sight = c.args.sight.now in
-    identifiers_open sight.day (rows_in_sight sight) c.args.node.now None (ap (λ (o : Option (Bor Statement)). option_map (λ s. s.now) o) (sym c.in-None.is) ∙ c.open_statement.ensures)
+    identifiers_open c.args.sight.now.day (rows_in_sight c.args.sight.now) c.args.node.now None (rw c.in-None.is at c.open_statement.ensures)

@@ -1,35 +1,21 @@
-use Rattle.std.proofs.Common.{◌≡◌, ◌+◌, ◌-◌, ◌<◌, ◌++◌, ◌∷◌, [], ℕ, length, take, get_or, arith, sym, ap, ◌∙◌}
-use Rattle.std.proofs.lemmas.List.{take_more}
+use Rattle.std.proofs.Common.{◌∙◌, arith, sym}
 use Rattle.bor_register.specs.declared.memory.index.Place.{Place}
 use Rattle.bor_register.specs.Memory.Sited.{is_told, passes, sited_at}
-use Rattle.bor_register.proofs.OnMemory.Lists.{last_before, last_passes}
+use Rattle.bor_register.proofs.OnMemory.Lists.{front_before, last_of_front}
 use Rattle.bor_register.proofs.memory.sight.last_told.Goals as goal
 
 pub loop-next-preserved : goal.loop-next-preserved
 loop-next-preserved c =
-    let next = c.loop-next.next in
-    let places = c.args.places.now in
-    let one : next - 1 + 1 ≡ next = omega arith in
-    let lt : next - 1 < length places = omega arith in
     let start : Place = record { filing = 0; statement = 0 } in
-    let place : Place = get_or places (next - 1) start in
-    let front : take next places ≡ take (next - 1) places ++ place ∷ [] = ap (λ (n : ℕ). take n places) (sym one) ∙ take_more places (next - 1) start lt in
-    record {
-      within = omega arith;
-      left = c.loop-next.invariant.left
-          ∙ last_before (λ p. passes (is_told c.args.sight.now.viewer.now c.args.sight.now.today c.args.sight.now.day c.args.agent.now) (sited_at c.args.filings.now p)) (take next places) (take (next - 1) places) place front
-          (sym c.is_told.ensures ∙ c.if-is_told.false);
-    }
+    let sight = c.args.sight.now in
+    let before = front_before (λ p. passes (is_told sight.viewer.now sight.today sight.day c.args.agent.now) (sited_at c.args.filings.now p)) c.args.places.now c.loop-next.next start (omega arith) (omega arith)
+    (sym c.is_told.ensures ∙ c.if-is_told.false) in
+    record { within = omega arith; left = c.loop-next.invariant.left ∙ before }
 
 pub returns-then-is_told : goal.returns-then-is_told
 returns-then-is_told c =
-    let next = c.loop-next.next in
-    let places = c.args.places.now in
-    let one : next - 1 + 1 ≡ next = omega arith in
-    let lt : next - 1 < length places = omega arith in
     let start : Place = record { filing = 0; statement = 0 } in
-    let place : Place = get_or places (next - 1) start in
-    let front : take next places ≡ take (next - 1) places ++ place ∷ [] = ap (λ (n : ℕ). take n places) (sym one) ∙ take_more places (next - 1) start lt in
-    last_passes (λ p. passes (is_told c.args.sight.now.viewer.now c.args.sight.now.today c.args.sight.now.day c.args.agent.now) (sited_at c.args.filings.now p)) (take next places) (take (next - 1) places) place front
+    let sight = c.args.sight.now in
+    last_of_front (λ p. passes (is_told sight.viewer.now sight.today sight.day c.args.agent.now) (sited_at c.args.filings.now p)) c.args.places.now c.loop-next.next start (omega arith) (omega arith)
     (sym c.is_told.ensures ∙ c.if-is_told.true)
     ∙ sym c.loop-next.invariant.left

@@ -1,10 +1,8 @@
-use Rattle.std.proofs.Common.{◌∙◌, Option, ap, sym, option_map, option_and_then, Bor}
-use Rattle.bods_read.specs.declared.statement.Statement.{Statement}
-use Rattle.bor_register.specs.Memory.Sighted.{statement_unless_closed}
+use Rattle.std.proofs.Common.{◌∙◌}
 use Rattle.bor_register.proofs.memory.sight.open_statement.Goals as goal
 
 pub returns-in-Some : goal.returns-in-Some
-returns-in-Some c = c.unless_closed.ensures ∙ ap (λ (o : Option (Bor Statement)). option_and_then statement_unless_closed (option_map (λ s. s.now) o)) (sym c.in-Some.is) ∙ c.latest.ensures
+returns-in-Some c = c.unless_closed.ensures ∙ (rw c.in-Some.is at c.latest.ensures)
 
 pub returns-in-None : goal.returns-in-None
-returns-in-None c = ap (λ (o : Option (Bor Statement)). option_and_then statement_unless_closed (option_map (λ s. s.now) o)) (sym c.in-None.is) ∙ c.latest.ensures
+returns-in-None c = rw c.in-None.is at c.latest.ensures

@@ -1,5 +1,4 @@
-use Rattle.std.proofs.Common.{◌∙◌, Option, Some, None, ap, sym, option_map, Bor}
-use Rattle.bods_read.specs.declared.statement.Statement.{Statement}
+use Rattle.std.proofs.Common.{◌∙◌, Some, None}
 use Rattle.bor_register.specs.Memory.Sighted.{rows_in_sight}
 use Rattle.bor_register.proofs.OnMemory.Sighted.{link_open}
 use Rattle.bor_register.proofs.OnMemory.Told.{told_then}
@@ -7,12 +6,10 @@ use Rattle.bor_register.proofs.memory.sight.stated_link.Goals as goal
 
 pub returns-in-Some : goal.returns-in-Some
 returns-in-Some c =
-    let sight = c.args.sight.now in
     told_then c.link_stated.result _ _
-    (λ link h. h ∙ link_open sight.day (rows_in_sight sight) c.args.subject.now c.args.rec.now (Some c.in-Some.statement.now) (ap (λ (o : Option (Bor Statement)). option_map (λ s. s.now) o) (sym c.in-Some.is) ∙ c.open_statement.ensures))
+    (λ link h. h ∙ link_open c.args.sight.now.day (rows_in_sight c.args.sight.now) c.args.subject.now c.args.rec.now (Some c.in-Some.statement.now) (rw c.in-Some.is at c.open_statement.ensures))
     c.link_stated.ensures
 
 pub returns-in-None : goal.returns-in-None
 returns-in-None c =
-    let sight = c.args.sight.now in
-    link_open sight.day (rows_in_sight sight) c.args.subject.now c.args.rec.now None (ap (λ (o : Option (Bor Statement)). option_map (λ s. s.now) o) (sym c.in-None.is) ∙ c.open_statement.ensures)
+    link_open c.args.sight.now.day (rows_in_sight c.args.sight.now) c.args.subject.now c.args.rec.now None (rw c.in-None.is at c.open_statement.ensures)

@@ -1,8 +1,7 @@
-use Rattle.std.proofs.Common.{◌≡◌, ◌<◌, ◌++◌, ◌∷◌, [], ◌∙◌, List, true, length, arith, refl, ap, sym, subst}
+use Rattle.std.proofs.Common.{◌≡◌, ◌++◌, ◌∷◌, [], ◌∙◌, List, true, length, arith, refl, ap, sym, subst}
 use Rattle.bor_register.specs.declared.member.Member.{Member}
 use Rattle.bor_register.specs.Memory.Holding.{Holding}
 use Rattle.bor_register.specs.Memory.Indexed.{IsIndex}
-use Rattle.bor_register.specs.Limits.{filings_limit}
 use Rattle.bor_register.specs.Live.{accepted}
 use Rattle.bor_register.specs.Register.{IsOrdered, filings_of, is_enrolled, with_filings}
 use Rattle.bor_register.proofs.Members.{long-with_filings}
@@ -13,12 +12,12 @@ use Rattle.bor_register.proofs.memory.list_keep.ListKeepKeep.add_filing.Goals as
 pub push_filing-requires-clause-enrolled : goal.push_filing-requires-clause-enrolled
 push_filing-requires-clause-enrolled c =
     let same = c.deref_mut.ensures.value ∙ ap (λ (h : Holding). h.register.members) (c.self.view_is ∙ c.take_grown.ensures.kept) in
-    subst (λ (ms : List Member). is_enrolled c.args.agent.now ms ≡ true) (sym same) (c.has_room.ensures c.if-not-has_room.false).0
+    rw same (c.has_room.ensures c.if-not-has_room.false).0
 
 pub push_filing-requires-clause-room : goal.push_filing-requires-clause-room
 push_filing-requires-clause-room c =
     let same = c.deref_mut.ensures.value ∙ ap (λ (h : Holding). h.register.members) (c.self.view_is ∙ c.take_grown.ensures.kept) in
-    subst (λ (ms : List Member). length (filings_of c.args.agent.now ms) < filings_limit) (sym same) (c.has_room.ensures c.if-not-has_room.false).1
+    rw same (c.has_room.ensures c.if-not-has_room.false).1
 
 pub invariant_of-self : goal.invariant_of-self
 invariant_of-self c =

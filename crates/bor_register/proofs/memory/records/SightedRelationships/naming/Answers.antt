@@ -1,7 +1,6 @@
-use Rattle.std.proofs.Common.{List, Contains, refl, subst, sym, ◌∙◌}
+use Rattle.std.proofs.Common.{refl, subst, ◌∙◌}
 use Rattle.bor_records.specs.declared.links.node.Node.{Node}
 use Rattle.bor_records.specs.Links.Nodes.{node_cmp}
-use Rattle.bor_records.specs.Links.Series.{series_of}
 use Rattle.bor_records.specs.Links.Values.{under}
 use Rattle.bor_records.specs.Links.Relationships.{HaveNaming, RowsOn, shown_on}
 use Rattle.bor_records.proofs.OnLinks.ByRecord.{naming_is}
@@ -19,6 +18,6 @@ returns c = record {
       let nodes = c.naming.result.now in
       subst (λ (t : RowsOn). HaveNaming (shown_on t) n nodes) (c.self.view_is ∙ shown)
       (naming_is sight.day (rows_in_sight sight) n nodes
-      (λ r h into. subst (λ (ns : List Node). Contains ns (series_of r)) (sym c.naming.ensures)
+      (λ r h into. rw c.naming.ensures
       (naming_covered sight.viewer.now sight.today sight.members.now c.self.invariant.ordered (under node_cmp sight.index.now.naming) c.self.invariant.index.naming n r h into)));
 }

@@ -1,17 +1,28 @@
 -- The order and the maps of members that are looked at one after another.
-use Rattle.std.proofs.Common.{◌≡◌, ℕ, ◌+◌, ◌-◌, ◌<◌, ◌≤◌, Bool, true, false, List, [], ◌∷◌, ◌++◌, length, take, drop, get_or, refl, ◌∙◌, sym, ap, subst, arith}
-use Rattle.std.specs.Prelude.{if◌then◌else◌, ◌||◌}
+use Rattle.std.proofs.Common.{◌≡◌, ◌+◌, ◌<◌, ◌++◌, ℕ, true, false, cond, List, [], ◌∷◌, Contains, drop, take, length, get_or, append_assoc, sym, refl, ap, ◌∙◌, subst, inl, inr, ◌-◌, ◌≤◌, arith}
+use Rattle.std.specs.Ordering.{is_eq}
+use Rattle.std.specs.declared.cmp.Ordering.{Ordering}
 use Rattle.std.proofs.lemmas.List.{drop_more, length-take-le, take-append-drop, take_more}
-use Rattle.bor_terms.specs.Texts.{is_below, is_same}
+use Rattle.std.proofs.lemmas.Map.Lookups.{CmpEqualImpliesEq}
+use Rattle.std.proofs.lemmas.Map.Views.{tells_apart}
+use Rattle.bor_terms.specs.Texts.{is_below}
 use Rattle.bor_terms.proofs.Texts.{below_differs, below_trans, same_refl}
 use Rattle.bods_read.specs.declared.statement.Statement.{Statement}
+use Rattle.bor_records.specs.declared.links.node.Node.{Node}
+use Rattle.bor_records.specs.Links.Series.{stated}
+use Rattle.bor_records.proofs.OnLinks.Found.{none}
+use Rattle.bor_records.proofs.OnLinks.Growth.{Contains-take_more}
+use Rattle.bor_records.specs.Links.Values.{IsNoted}
+use Rattle.bor_register.specs.declared.memory.index.Place.{Place}
+use Rattle.bor_register.specs.Memory.Indexed.{AreNoted, IsGrown, IsIndex}
+use Rattle.bor_register.specs.Memory.Sited.{places_from}
 use Rattle.bor_register.specs.declared.filing.AcceptedFiling.{AcceptedFiling}
 use Rattle.bor_register.specs.declared.member.Member.{Member}
 use Rattle.bor_register.specs.Register.{AllAbove, IsOrdered, filings_of, is_enrolled, with_filings}
 use Rattle.bor_register.proofs.Members.{filings_written, with_filings_same}
 use Rattle.bor_register.specs.declared.memory.index.Index.{Index}
-use Rattle.bor_register.specs.Memory.Indexed.{IsGrown, IsIndex}
 use Rattle.bor_register.proofs.OnMemory.Indexed.{index_more, index_same}
+use Rattle.bor_register.proofs.OnMemory.Lists.{front_is}
 
 -- ---- names that go up
 
@@ -30,10 +41,7 @@ ordered_next (x ∷ xs) l m h lt = (above_next x.name xs l m h.0 lt, ordered_nex
 -- one more member stands in order where it is above the one before
 pub ordered_more : (ms : List Member) (i : ℕ) (a b : Member) → 1 ≤ i → i < length ms → a ≡ get_or ms (i - 1) a → b ≡ get_or ms i b → is_below a.name b.name ≡ true → IsOrdered (take i ms) → IsOrdered (take (i + 1) ms)
 ordered_more ms i a b one lt was is below h =
-    let start : i - 1 < length ms = omega arith in
-    let next : i - 1 + 1 ≡ i = omega arith in
-    let front : take i ms ≡ take (i - 1) ms ++ a ∷ [] =
-    ap (λ (n : ℕ). take n ms) (sym next) ∙ take_more ms (i - 1) a start ∙ ap (λ (m : Member). take (i - 1) ms ++ m ∷ []) (sym was) in
+    let front : take i ms ≡ take (i - 1) ms ++ a ∷ [] = front_is ms i a (omega arith) (omega arith) ∙ ap (λ (m : Member). take (i - 1) ms ++ m ∷ []) (sym was) in
     let all : take (i + 1) ms ≡ (take (i - 1) ms ++ a ∷ []) ++ b ∷ [] =
     take_more ms i b lt ∙ ap (λ (m : Member). take i ms ++ m ∷ []) (sym is) ∙ ap (λ (l : List Member). l ++ b ∷ []) front in
     subst IsOrdered (sym all) (ordered_next (take (i - 1) ms) a b (subst IsOrdered front h) below)
@@ -45,7 +53,7 @@ above_at low (x ∷ xs) m ys h = above_at low xs m ys h.1
 absent_by : (xs : List Member) (m : Member) (ys : List Member) → IsOrdered (xs ++ m ∷ ys) → is_enrolled m.name xs ≡ false
 absent_by [] m ys h = refl
 absent_by (x ∷ xs) m ys h =
-    ap (λ (b : Bool). b || is_enrolled m.name xs) (below_differs x.name m.name (above_at x.name xs m ys h.0)) ∙ absent_by xs m ys h.1
+    grind (arith, below_differs x.name m.name (above_at x.name xs m ys h.0), absent_by xs m ys h.1)
 
 -- no member before has the name
 pub absent_before : (ms : List Member) (i : ℕ) (m : Member) → i < length ms → m ≡ get_or ms i m → IsOrdered ms → is_enrolled m.name (take i ms) ≡ false
@@ -72,31 +80,23 @@ index_filed : (agent : List ℕ) (fs : List AcceptedFiling) (f : AcceptedFiling)
 index_filed agent fs f ms old new on h grown =
     let ns = with_filings agent fs ms in
     let own : filings_of agent ns ≡ fs = filings_written agent fs ms on in
-    let it : IsIndex (with_filings agent (filings_of agent ns ++ f ∷ []) ns) new =
-    index_more ns agent f old new (enrolled_written agent fs ms ∙ on) h (subst (λ (n : ℕ). IsGrown agent n 0 f.statements old new) (ap (λ (gs : List AcceptedFiling). length gs) (sym own)) grown) in
-    subst (λ (l : List Member). IsIndex l new) (ap (λ (gs : List AcceptedFiling). with_filings agent (gs ++ f ∷ []) ns) own ∙ written_twice agent fs (fs ++ f ∷ []) ms) it
+    let it = index_more ns agent f old new (enrolled_written agent fs ms ∙ on) h (subst (λ (n : ℕ). IsGrown agent n 0 f.statements old new) (ap (λ (gs : List AcceptedFiling). length gs) (sym own)) grown) in
+    rw (own, written_twice agent fs (fs ++ f ∷ []) ms) at it
 
 pub index_filed_more : (agent : List ℕ) (fs : List AcceptedFiling) (i : ℕ) (f : AcceptedFiling) (statements : List Statement) (ms : List Member) (old new : Index) → i < length fs → f ≡ get_or fs i f → statements ≡ f.statements → is_enrolled agent ms ≡ true
     → IsIndex (with_filings agent (take i fs) ms) old → IsGrown agent i 0 statements old new → IsIndex (with_filings agent (take (i + 1) fs) ms) new
 index_filed_more agent fs i f statements ms old new lt is same on h grown =
-    let long : length (take i fs) ≡ i = long_take fs i (omega arith) in
+    let long : length (take i fs) ≡ i = length-take-le i fs (omega arith) in
     let more : take (i + 1) fs ≡ take i fs ++ f ∷ [] = take_more fs i f lt ∙ ap (λ (g : AcceptedFiling). take i fs ++ g ∷ []) (sym is) in
     subst (λ (gs : List AcceptedFiling). IsIndex (with_filings agent gs ms) new) (sym more)
     (index_filed agent (take i fs) f ms old new on h
     (subst (λ (n : ℕ). IsGrown agent n 0 f.statements old new) (sym long) (subst (λ (ss : List Statement). IsGrown agent i 0 ss old new) same grown)))
-  where
-    long_take : (xs : List AcceptedFiling) (n : ℕ) → n ≤ length xs → length (take n xs) ≡ n
-    long_take xs n within = length-take-le n xs within
 
 -- ---- a member more
 
 enrolled_last : (xs : List Member) (m : Member) → is_enrolled m.name (xs ++ m ∷ []) ≡ true
-enrolled_last [] m = ap (λ (b : Bool). b || false) (same_refl m.name)
-enrolled_last (x ∷ xs) m = go (is_same x.name m.name) (enrolled_last xs m)
-  where
-    go : (b : Bool) → is_enrolled m.name (xs ++ m ∷ []) ≡ true → (b || is_enrolled m.name (xs ++ m ∷ [])) ≡ true
-    go true rest = refl
-    go false rest = rest
+enrolled_last [] m = grind (arith, same_refl m.name)
+enrolled_last (x ∷ xs) m = grind (arith, enrolled_last xs m)
 
 none_last : (xs : List Member) (m : Member) → is_enrolled m.name xs ≡ false → m.filings ≡ [] → filings_of m.name (xs ++ m ∷ []) ≡ []
 none_last [] m fresh none = grind (arith, none)
@@ -107,14 +107,8 @@ same_last name [] m none = grind (arith, none)
 same_last name (x ∷ xs) m none = grind (arith, same_last name xs m)
 
 written_last : (xs : List Member) (m n : Member) (fs : List AcceptedFiling) → n ≡ record m { filings = fs } → is_enrolled m.name xs ≡ false → with_filings m.name fs (xs ++ m ∷ []) ≡ xs ++ n ∷ []
-written_last [] m n fs is fresh = ap (λ (b : Bool). if b then (let p : Member = record m { filings = fs } in p) ∷ [] else m ∷ []) (same_refl m.name) ∙ ap (λ (p : Member). p ∷ []) (sym is)
-written_last (x ∷ xs) m n fs is fresh = go (is_same x.name m.name) refl (λ on. written_last xs m n fs is on)
-  where
-    go : (b : Bool) → is_same x.name m.name ≡ b → (is_enrolled m.name xs ≡ false → with_filings m.name fs (xs ++ m ∷ []) ≡ xs ++ n ∷ []) → (if is_same x.name m.name then (let p : Member = record x { filings = fs } in p) ∷ (xs ++ m ∷ []) else x ∷ with_filings m.name fs (xs ++ m ∷ [])) ≡ x ∷ (xs ++ n ∷ [])
-    go true e rest = let no : true ≡ false = sym (ap (λ (b : Bool). b || is_enrolled m.name xs) e) ∙ fresh in absurd cc
-    go false e rest =
-        ap (λ (b : Bool). if b then (let p : Member = record x { filings = fs } in p) ∷ (xs ++ m ∷ []) else x ∷ with_filings m.name fs (xs ++ m ∷ [])) e
-        ∙ ap (λ (l : List Member). x ∷ l) (rest (sym (ap (λ (b : Bool). b || is_enrolled m.name xs) e) ∙ fresh))
+written_last [] m n fs is fresh = grind (arith, is, same_refl m.name)
+written_last (x ∷ xs) m n fs is fresh = grind (arith, written_last xs m n fs is)
 
 index_joined : (xs : List Member) (m : Member) (old new : Index) → is_enrolled m.name xs ≡ false → IsIndex xs old
     → ((ms : List Member) → is_enrolled m.name ms ≡ true → filings_of m.name ms ≡ [] → IsIndex ms old → IsIndex (with_filings m.name m.filings ms) new) → IsIndex (xs ++ m ∷ []) new
