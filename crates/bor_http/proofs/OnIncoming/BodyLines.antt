@@ -1,11 +1,12 @@
 -- The length of a body, and what the table says of it.
-use Rattle.std.proofs.Common.{◌≡◌, ℕ, ◌+◌, List, [], ◌∷◌, length, take, Option, Some, None, Ok, Err, Bool, true, false, cond, suc, not, ◌&&◌, ◌||◌, refl, ap, ◌∙◌, arith, codes}
-use Rattle.std.specs.Prelude.{Result, nat_lt, nat_le, count_by, if◌then◌else◌}
-use Rattle.std.specs.List.{list_any}
+use Rattle.std.proofs.Common.{◌≡◌, ℕ, List, [], ◌∷◌, length, take, Option, Some, None, Ok, Err, Bool, true, false, suc, not, ◌&&◌, ◌||◌, refl, sym, ap, ◌∙◌, arith, codes}
+use Rattle.std.specs.Prelude.{Result, nat_lt, nat_le, if◌then◌else◌}
+use Rattle.std.specs.List.{filter, list_any}
 use Rattle.std.specs.Option.{option_map_or}
 use Rattle.std.specs.Str.Parse.{digits_value}
 use Rattle.std.proofs.lemmas.Bool.Decides.{nat_tests}
-use Rattle.std.proofs.lemmas.List.Sums.{sum_by-append}
+use Rattle.std.proofs.lemmas.List.{length-map}
+use Rattle.std.proofs.lemmas.List.Sums.{length-filter}
 use Rattle.bor_terms.specs.Tables.{table, outcome}
 use Rattle.bor_http.specs.declared.incoming.fault.Refusal.{Refusal}
 use Rattle.bor_http.specs.declared.incoming.fault.Refusal.TheVariants.{BadLength, BodyTooLarge, CutShort}
@@ -21,25 +22,12 @@ first_of [] = None
 first_of (value ∷ more) = Some value
 
 how_many_values : (name : List ℕ) (fields : List FieldText) → how_many name fields ≡ length (values name fields)
-how_many_values name [] = refl
-how_many_values name (field ∷ fields) =
-    sum_by-append (λ f. cond (is_named name f) 1 0) (field ∷ []) fields
-    ∙ by_test (is_named name field) refl (how_many_values name fields)
-  where
-    by_test : (t : Bool) → is_named name field ≡ t → how_many name fields ≡ length (values name fields)
-        → count_by (is_named name) (field ∷ []) + how_many name fields ≡ length (values name (field ∷ fields))
-    by_test true e more = rw e (omega (arith, more))
-    by_test false e more = rw e (omega (arith, more))
+how_many_values name fields = sym (length-map (filter (is_named name) fields) (λ (field : FieldText). field.1) ∙ length-filter (is_named name) fields)
 
 first_value_is : (name : List ℕ) (fields : List FieldText) → first_value name fields ≡ first_of (values name fields)
 unfolding first_of
 first_value_is name [] = refl
-first_value_is name (field ∷ fields) = by_test (is_named name field) refl (first_value_is name fields)
-  where
-    by_test : (t : Bool) → is_named name field ≡ t → first_value name fields ≡ first_of (values name fields)
-        → first_value name (field ∷ fields) ≡ first_of (values name (field ∷ fields))
-    by_test true e more = rw e refl
-    by_test false e more = rw e more
+first_value_is name (field ∷ fields) = grind (arith, first_value_is name fields)
 
 -- ---- the lines
 

@@ -2,7 +2,8 @@
 use Rattle.std.proofs.Common.{◌≡◌, ◌≤◌, ℕ, List, [], ◌∷◌, ◌++◌, length, take, drop, Option, Some, None, Ok, Err, Bool, true, false, not, ◌&&◌, refl, sym, ap, subst, ◌∙◌, arith}
 use Rattle.std.specs.Prelude.{Result, nat_lt, if◌then◌else◌}
 use Rattle.std.specs.Option.{option_map_or, is_none}
-use Rattle.std.proofs.lemmas.Bool.Decides.{nat_tests}
+use Rattle.std.proofs.lemmas.Bool.{cond_both, ltb-false, ltb-true}
+use Rattle.std.proofs.lemmas.Option.{none-some, same_Some}
 use Rattle.httparse.specs.Grammar.{ReadsRequest}
 use Rattle.httparse.proofs.GrammarLemmas.{request_unique}
 use Rattle.bor_terms.specs.Tables.{table, outcome}
@@ -65,16 +66,7 @@ message_is input head = at_end input (head_end input) head
 -- ---- an input begins with one head
 
 same_end : (input : List ℕ) (a b : ℕ) → head_end input ≡ Some a → head_end input ≡ Some b → a ≡ b
-same_end input a b x y = some_same a b (sym x ∙ y)
-  where
-    some_same : (a b : ℕ) → Some a ≡ Some b → a ≡ b
-    some_same a b e = cc
-
-no_end : (input : List ℕ) (n : ℕ) → head_end input ≡ None → head_end input ≡ Some n → ⊥
-no_end input n none some = never n (sym none ∙ some)
-  where
-    never : (n : ℕ) → None ≡ Some n → ⊥
-    never n e = cc
+same_end input a b x y = same_Some a b (sym x ∙ y)
 
 pub one_head : (input : List ℕ) (a b : Option Parts) → IsTakenApart input a → IsTakenApart input b → a ≡ b
 one_head input None None x y = refl
@@ -91,12 +83,6 @@ one_head input (Some a) (Some b) x y =
 abbrev ending : List ℕ → Option ℕ → Result ℕ Refusal
 ending input end = option_map_or (with_few_lines input) end (without_head head_limit input)
 
-few : (limit lines : ℕ) → nat_lt limit lines ≡ false → lines ≤ limit
-few limit lines e = grind (arith, nat_tests)
-
-many : (limit lines : ℕ) → nat_lt limit lines ≡ true → lines ≤ limit → ⊥
-many limit lines e le = grind (arith, nat_tests)
-
 has_parts : (input : List ℕ) (n : ℕ) (head : Option Parts) → head_end input ≡ Some n → line_feeds (take n input) ≤ line_limit → IsTakenApart input head
     → HasParts (take n input) (or_bad_head head)
 has_parts input n None ends lines apart = (
@@ -112,18 +98,11 @@ has_parts input n (Some parts) ends lines apart = (
 is_ended : (input : List ℕ) (end : Option ℕ) (head : Option Parts) → head_end input ≡ end → IsTakenApart input head
     → IsAt input (ending input end) (message_at input (ending input end) head)
 unfolding message_at
-is_ended input None head ends apart = by_length (nat_lt (length input) head_limit)
-  where
-    by_length : (short : Bool)
-        → IsAt input (if short then Err CutShort else Err HeadTooLarge) (message_at input (if short then Err CutShort else Err HeadTooLarge) head)
-    by_length true = refl
-    by_length false = refl
-is_ended input (Some n) head ends apart = by_lines (nat_lt line_limit (line_feeds (take n input))) refl
-  where
-    by_lines : (has_many : Bool) → nat_lt line_limit (line_feeds (take n input)) ≡ has_many
-        → IsAt input (if has_many then Err HeadTooLarge else Ok n) (message_at input (if has_many then Err HeadTooLarge else Ok n) head)
-    by_lines true e = refl
-    by_lines false e = (or_bad_head head, has_parts input n head ends (few line_limit (line_feeds (take n input)) e) apart, refl)
+is_ended input None head ends apart =
+    cond_both (nat_lt (length input) head_limit) (Err CutShort) (Err HeadTooLarge) (λ at. IsAt input at (message_at input at head)) (λ _. refl) (λ _. refl)
+is_ended input (Some n) head ends apart =
+    cond_both (nat_lt line_limit (line_feeds (take n input))) (Err HeadTooLarge) (Ok n) (λ at. IsAt input at (message_at input at head)) (λ _. refl)
+    (λ few. (or_bad_head head, has_parts input n head ends (ltb-false line_limit (line_feeds (take n input)) few) apart, refl))
 
 is_message : (input : List ℕ) (head : Option Parts) → IsTakenApart input head → IsMessageBySteps input (message_at input (head_at input) head)
 is_message input head apart = is_ended input (head_end input) head refl apart
@@ -135,16 +114,12 @@ MadeOf input at read = (head : Option Parts) × IsTakenApart input head × (read
 made : (input : List ℕ) (end : Option ℕ) (read : Result Message Refusal) → head_end input ≡ end → IsAt input (ending input end) read
     → MadeOf input (ending input end) read
 unfolding message_at
-made input None read ends is = by_length (nat_lt (length input) head_limit) is
-  where
-    none : IsTakenApart input None
-    none = λ parts x. no_end input x.end ends x.ends
-
-    by_length : (short : Bool) → IsAt input (if short then Err CutShort else Err HeadTooLarge) read
-        → MadeOf input (if short then Err CutShort else Err HeadTooLarge) read
-    by_length true is = (None, none, is)
-    by_length false is = (None, none, is)
-made input (Some n) read ends is = by_lines (nat_lt line_limit (line_feeds (take n input))) refl is
+made input None read ends is =
+    let none : IsTakenApart input None = λ parts x. none-some x.end (sym ends ∙ x.ends) in
+    cond_both (nat_lt (length input) head_limit) (Err CutShort) (Err HeadTooLarge) (λ at. IsAt input at read → MadeOf input at read) (λ _ is. (None, none, is)) (λ _ is. (None, none, is)) is
+made input (Some n) read ends is =
+    cond_both (nat_lt line_limit (line_feeds (take n input))) (Err HeadTooLarge) (Ok n) (λ at. IsAt input at read → MadeOf input at read) by_many
+    (λ few is. with_parts (ltb-false line_limit (line_feeds (take n input)) few) is.0 is.1 is.2) is
   where
     with_parts : line_feeds (take n input) ≤ line_limit → (parts : Result Parts Refusal) → HasParts (take n input) parts
         → read ≡ and_then (with_body (drop n input)) parts → MadeOf input (Ok n) read
@@ -159,15 +134,13 @@ made input (Some n) read ends is = by_lines (nat_lt line_limit (line_feeds (take
       is ∙ ap Err has.0,
     )
 
-    by_lines : (has_many : Bool) → nat_lt line_limit (line_feeds (take n input)) ≡ has_many
-        → IsAt input (if has_many then Err HeadTooLarge else Ok n) read → MadeOf input (if has_many then Err HeadTooLarge else Ok n) read
-    by_lines true e is = (
+    by_many : nat_lt line_limit (line_feeds (take n input)) ≡ true → read ≡ Err HeadTooLarge → MadeOf input (Err HeadTooLarge) read
+    by_many many is = (
       None,
-      λ parts x. many line_limit (line_feeds (take n input)) e
-          (subst (λ k. line_feeds (take k input) ≤ line_limit) (same_end input x.end n x.ends ends) x.few_lines),
+      λ parts x. let few = subst (λ k. line_feeds (take k input) ≤ line_limit) (same_end input x.end n x.ends ends) x.few_lines in
+          omega (arith, ltb-true line_limit (line_feeds (take n input)) many),
       is,
     )
-    by_lines false e is = with_parts (few line_limit (line_feeds (take n input)) e) is.0 is.1 is.2
 
 -- ---- both ways
 

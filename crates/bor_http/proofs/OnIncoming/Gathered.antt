@@ -34,8 +34,11 @@ read_fits received more progress known within = omega (arith, length-append rece
 
 -- ---- one read more, where some of the request is missing
 
-module _ (known held left : Option (List ℕ)) (received new : List ℕ) (progress : Progress) (wanted : ℕ) (consumed : Consumes known held received) (so_far : IsProgress received progress)
-    (less : length received < needs progress) (most : wanted ≤ needs progress - length received) where
+module _ (known held left : Option (List ℕ)) (received new : List ℕ) (progress : Progress) (wanted len : ℕ) (is_whole : Bool) (consumed : Consumes known held received) (so_far : IsProgress received progress)
+    (whole : (is_whole ≡ true) ↔ (needs progress ≤ len)) (isnt : is_whole ≡ false) (same : len ≡ length received) (most : wanted ≤ needs progress - length received) where
+  less : length received < needs progress
+  less = not_reached (needs progress) (length received) len is_whole whole isnt same
+
   pub taken_more : (result : Result ℕ WireFault) → TakesPiece held left received new wanted result → TakesAtMost request_limit known left
   taken_more result piece = (
     received ++ piece.bytes,
@@ -49,13 +52,13 @@ module _ (known held left : Option (List ℕ)) (received new : List ℕ) (progre
 
   -- where the read failed, what came before is all that was given
   pub unread_more : (fault : WireFault) → (IsWhole received → needs progress ≤ length received) → TakesPiece held left received new wanted (Err fault) → IsReadInPart known left fault
-  unread_more fault whole piece = unread fault piece.bytes piece.consumed piece.came
+  unread_more fault enough piece = unread fault piece.bytes piece.consumed piece.came
     where
       unread : (fault : WireFault) (bytes : List ℕ) → Consumes held left bytes → IsLost bytes fault → IsReadInPart known left fault
       unread (Refused why) bytes taken lost = absurd lost
       unread Read bytes taken lost = (
         received,
         subst (Consumes known left) (ap (λ more. received ++ more) lost ∙ append-nil received) (Consumes-trans known held left received bytes consumed taken),
-        λ is. omega (arith, less, whole is),
+        λ is. omega (arith, less, enough is),
       )
       unread Memory bytes taken lost = tt

@@ -2,7 +2,9 @@
 use Rattle.std.proofs.Common.{◌≡◌, ◌≤◌, length, drop, ℕ, ◌+◌, ◌-◌, ◌<◌, List, [], ◌∷◌, ◌++◌, Some, None, Option, get_or, refl, sym, ap, ◌∙◌, arith, suc, ◌==◌, ◌&&◌, false, true, Bool, cond, ◌⊎◌, inl, inr, drop-cons, add-one, nat_lt, drop}
 use Rattle.std.specs.Option.{option_map}
 use Rattle.std.proofs.lemmas.Bool.Decides.{nat_tests}
+use Rattle.std.proofs.lemmas.Bool.{false_from_ne_true}
 use Rattle.std.proofs.lemmas.List.{at_drop_all}
+use Rattle.std.proofs.lemmas.Option.{none-some}
 use Rattle.bor_http.specs.Incoming.Head.{blank_len, head_len}
 
 pub other_test : (b k : ℕ) → (b ≡ 10 → k ≡ 0) → (b == 10 && nat_lt 0 k) ≡ false
@@ -126,19 +128,11 @@ head_len-le (x ∷ rest) n e =
 
 no_blank : (b : ℕ) (rest : List ℕ) → head_len (b ∷ rest) ≡ None → (b == 10 && nat_lt 0 (blank_len rest)) ≡ false
 unfolding head_len
-no_blank b rest e = by_test (b == 10 && nat_lt 0 (blank_len rest)) refl e
-  where
-    by_test : (t : Bool) → (b == 10 && nat_lt 0 (blank_len rest)) ≡ t → cond t (Some (1 + blank_len rest)) (option_map (λ n. suc n) (head_len rest)) ≡ None → (b == 10 && nat_lt 0 (blank_len rest)) ≡ false
-    by_test true is e = cc
-    by_test false is e = is
+no_blank b rest e = false_from_ne_true (b == 10 && nat_lt 0 (blank_len rest)) (λ is. none-some (1 + blank_len rest) (sym (rw is at e)))
 
 none_behind : (b : ℕ) (rest : List ℕ) → head_len (b ∷ rest) ≡ None → head_len rest ≡ None
 unfolding head_len
-none_behind b rest e = map_none (head_len rest) (sym (rw (no_blank b rest e) refl) ∙ e)
-  where
-    map_none : (o : Option ℕ) → option_map (λ n. suc n) o ≡ None → o ≡ None
-    map_none None e = refl
-    map_none (Some n) e = cc
+none_behind b rest e = grind (arith, no_blank b rest e)
 
 skip_one : (b : ℕ) (rest : List ℕ) → (b == 10 && nat_lt 0 (blank_len rest)) ≡ false → head_len (b ∷ rest) ≡ option_map (λ n. suc n) (head_len rest)
 unfolding head_len
@@ -160,3 +154,6 @@ scanned_before (a ∷ b ∷ c ∷ rest) more e =
     rw k (skip_one a ys test
     ∙ ap (option_map (λ n. suc n)) (scanned_before (b ∷ c ∷ rest) more (none_behind a (b ∷ c ∷ rest) e))
     ∙ shift_suc (length (b ∷ c ∷ rest) - 2) (head_len (drop (length (b ∷ c ∷ rest) - 2) ys)))
+
+-- where a head ends at a line, and that none ends in the bytes
+pub ruleset head_rules = (head_len-hit, head_len-end)

@@ -1,8 +1,9 @@
 -- An input is one request, whatever stands behind it.
-use Rattle.std.proofs.Common.{◌≡◌, ◌≢◌, ◌≤◌, ◌<◌, ℕ, List, ◌++◌, Option, Some, None, Bool, true, false, Result, Ok, Err, refl, sym, ap, ◌∙◌, take, drop, length, cond, nat_lt, subst, append_assoc, length-append, take_all, arith}
+use Rattle.std.proofs.Common.{◌≡◌, ◌≢◌, ◌≤◌, ◌<◌, ℕ, List, ◌++◌, Option, Some, None, Bool, true, false, Result, Ok, Err, refl, sym, ap, ◌∙◌, take, drop, length, nat_lt, subst, append_assoc, length-append, take_all, arith}
 use Rattle.std.specs.Prelude.{⊤}
 use Rattle.std.specs.Option.{option_map_or}
 use Rattle.std.proofs.lemmas.List.{take-append-drop, take-append-le, drop-append-le, length-take, length-take-le}
+use Rattle.std.proofs.lemmas.Bool.{cond_both}
 use Rattle.std.proofs.lemmas.Bool.Decides.{nat_tests}
 use Rattle.bor_http.specs.declared.incoming.fault.Refusal.{Refusal}
 use Rattle.bor_http.specs.declared.incoming.fault.Refusal.TheVariants.{HeadTooLarge, CutShort}
@@ -59,18 +60,11 @@ inside : (limit : ℕ) (input : List ℕ) → IsInside input (head_within limit 
 unfolding IsInside
 inside limit input = by_end (head_len (take limit input)) refl
   where
-    outside : (short : Bool) → IsInside input (cond short (Err CutShort) (Err HeadTooLarge))
-    outside true = tt
-    outside false = tt
-
-    at_most : (n : ℕ) (many : Bool) → n ≤ length input → IsInside input (cond many (Err HeadTooLarge) (Ok n))
-    at_most n true le = tt
-    at_most n false le = le
-
     by_end : (end : Option ℕ) → head_len (take limit input) ≡ end → IsInside input (option_map_or (with_few_lines input) end (without_head limit input))
-    by_end None e = outside (nat_lt (length input) limit)
+    by_end None e = cond_both (nat_lt (length input) limit) (Err CutShort) (Err HeadTooLarge) (IsInside input) (λ _. tt) (λ _. tt)
     by_end (Some n) e =
-        at_most n (nat_lt line_limit (line_feeds (take n input))) (omega (arith, head_len-le (take limit input) n e, length-take limit input))
+        cond_both (nat_lt line_limit (line_feeds (take n input))) (Err HeadTooLarge) (Ok n) (IsInside input) (λ _. tt)
+        (λ _. omega (arith, head_len-le (take limit input) n e, length-take limit input))
 
 -- ---- the body is the one it was
 

@@ -1,7 +1,8 @@
 -- The length of a body by one pass over the fields.
-use Rattle.std.proofs.Common.{◌≡◌, ◌<◌, ◌+◌, ℕ, List, [], ◌∷◌, length, drop, map, get_or, Option, Some, None, Ok, Err, Bool, true, false, cond, codes, refl, sym, ap, ◌∙◌, arith, drop-cons, add-one}
+use Rattle.std.proofs.Common.{◌≡◌, ◌<◌, ◌+◌, ℕ, List, [], ◌∷◌, length, drop, map, get_or, Option, Some, None, Err, true, false, cond, codes, refl, sym, ap, ◌∙◌, arith, drop-cons, add-one}
 use Rattle.std.specs.Prelude.{Result, nat_lt, if◌then◌else◌}
 use Rattle.std.specs.Option.{is_some, option_map}
+use Rattle.std.proofs.lemmas.Bool.{cond_both}
 use Rattle.std.proofs.lemmas.Bool.Decides.{nat_tests}
 use Rattle.std.proofs.lemmas.List.Sums.{sum_by-append}
 use Rattle.bor_http.specs.declared.incoming.fault.Refusal.{Refusal}
@@ -16,23 +17,11 @@ abbrev content : List ℕ
 content = codes "content-length"
 
 -- the length that the fields give, after those with this length and with no encoding
-pub len_after : Option (List ℕ) → List FieldText → Result ℕ Refusal
+abbrev pub len_after : Option (List ℕ) → List FieldText → Result ℕ Refusal
 len_after None fields = body_len fields
 len_after (Some value) fields =
     if nat_lt 0 (how_many encoding fields) then Err BadLength
     else (if nat_lt 0 (how_many content fields) then Err BadLength else length_of body_limit value)
-
-pub after_none : (fields : List FieldText) → len_after None fields ≡ body_len fields
-unfolding len_after
-after_none fields = refl
-
-pub at_end : len_after None [] ≡ Ok 0
-unfolding len_after
-at_end = refl
-
-pub at_end_with : (value : List ℕ) → len_after (Some value) [] ≡ length_of body_limit value
-unfolding len_after
-at_end_with value = refl
 
 counted : (name : List ℕ) (field : FieldText) (fields : List FieldText) → is_named name field ≡ true
     → how_many name (field ∷ fields) ≡ 1 + how_many name fields
@@ -52,28 +41,21 @@ two_more n = grind (arith, nat_tests)
 
 pub encoded : (found : Option (List ℕ)) (field : FieldText) (fields : List FieldText) → is_named encoding field ≡ true
     → len_after found (field ∷ fields) ≡ Err BadLength
-unfolding len_after
 encoded None field fields e = rw (counted encoding field fields e, some_more (how_many encoding fields)) refl
 encoded (Some value) field fields e = rw (counted encoding field fields e, some_more (how_many encoding fields)) refl
 
-either_way : {X : Type 0} (x : X) (t : Bool) → (if t then x else x) ≡ x
-either_way x true = refl
-either_way x false = refl
-
 pub twice : (value : List ℕ) (field : FieldText) (fields : List FieldText) → is_named content field ≡ true
     → len_after (Some value) (field ∷ fields) ≡ Err BadLength
-unfolding len_after
 twice value field fields e =
-    rw (counted content field fields e, some_more (how_many content fields)) (either_way (Err BadLength) (nat_lt 0 (how_many encoding (field ∷ fields))))
+    rw (counted content field fields e, some_more (how_many content fields))
+    (cond_both (nat_lt 0 (how_many encoding (field ∷ fields))) (Err BadLength) (Err BadLength) (λ read. read ≡ Err BadLength) (λ _. refl) (λ _. refl))
 
 pub taken : (field : FieldText) (fields : List FieldText) → is_named encoding field ≡ false → is_named content field ≡ true
     → len_after None (field ∷ fields) ≡ len_after (Some field.1) fields
-unfolding len_after
 taken field fields e f = rw (not_counted encoding field fields e, counted content field fields f, two_more (how_many content fields), f) refl
 
 pub passed : (found : Option (List ℕ)) (field : FieldText) (fields : List FieldText) → is_named encoding field ≡ false → is_named content field ≡ false
     → len_after found (field ∷ fields) ≡ len_after found fields
-unfolding len_after
 passed None field fields e f = rw (not_counted encoding field fields e, not_counted content field fields f, f) refl
 passed (Some value) field fields e f = rw (not_counted encoding field fields e, not_counted content field fields f) refl
 

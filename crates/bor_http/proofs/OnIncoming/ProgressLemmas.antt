@@ -1,25 +1,23 @@
 -- How much of a request has come, from what was found at its front.
-use Rattle.std.proofs.Common.{◌≡◌, ◌≤◌, ◌<◌, ◌+◌, ◌-◌, ◌↔◌, ℕ, List, [], ◌++◌, Bool, true, false, length, take, drop, min, cond, codes, Option, Some, None, IfOk, Ok, Err, Result, refl, sym, ap, subst, ◌∙◌, arith, append-nil, append_assoc, length-append, nat_lt, nat_le, inl, inr}
-use Rattle.std.specs.Option.{option_map_or}
-use Rattle.std.specs.Str.Parse.{digits_value}
-use Rattle.std.proofs.lemmas.Bool.{cases_lt}
+use Rattle.std.proofs.Common.{◌≡◌, ◌≤◌, ◌<◌, ◌+◌, ◌-◌, ◌↔◌, ℕ, List, [], ◌++◌, true, false, length, take, drop, min, Some, None, IfOk, Ok, Err, Result, refl, sym, ap, subst, ◌∙◌, arith, append-nil, append_assoc, length-append, nat_lt, inl, inr}
+use Rattle.std.proofs.lemmas.Bool.{cases_lt, le-ltb, lt-ltb}
 use Rattle.std.proofs.lemmas.Bool.Decides.{nat_tests}
 use Rattle.std.proofs.lemmas.List.{take-append-drop, take-append-le, take_all, length-take-le, length-drop, drop-append-le}
 use Rattle.bor_http.specs.declared.incoming.fault.Refusal.{Refusal}
-use Rattle.bor_http.specs.declared.incoming.fault.Refusal.TheVariants.{HeadTooLarge, CutShort, BadHead, BadLength, BodyTooLarge}
+use Rattle.bor_http.specs.declared.incoming.fault.Refusal.TheVariants.{HeadTooLarge, CutShort, BadHead}
 use Rattle.bor_http.specs.declared.incoming.message.MessageHead.{MessageHead}
 use Rattle.bor_http.specs.declared.incoming.message.HeadSpans.{HeadSpans}
 use Rattle.bor_http.specs.declared.incoming.progress.Progress.{Progress}
 use Rattle.bor_http.specs.declared.incoming.progress.Progress.TheVariants.{Searched, Refused, Headed}
 use Rattle.bor_http.specs.Incoming.Head.{head_len, head_limit}
-use Rattle.bor_http.specs.Incoming.Steps.{AreWithin, IsScanned, HasParts, body_len, length_of, parts_at}
-use Rattle.bor_http.proofs.OnIncoming.Steps.{with_few_lines, and_then, body_of, with_body}
+use Rattle.bor_http.specs.Incoming.Steps.{AreWithin, IsScanned, HasParts, body_len, parts_at}
+use Rattle.bor_http.proofs.OnIncoming.Steps.{and_then, body_of, with_body}
 use Rattle.bor_http.specs.Incoming.Refusals.{IsMessage}
-use Rattle.bor_http.specs.Incoming.Message.{FieldText, Message, Parts, body_limit, first_value, how_many, is_numeral, request_limit}
+use Rattle.bor_http.specs.Incoming.Message.{Message, Parts, request_limit}
 use Rattle.bor_http.specs.Incoming.Progress.{IsHeadOf, IsProgress, HasSearched, IsWhole, begun_by, message_by, needs}
 use Rattle.bor_http.proofs.OnIncoming.HeadLemmas.{head_len-le, scanned_before}
-use Rattle.bor_http.proofs.OnIncoming.ReadingLemmas.{head-cut_short, head-found, head-too_large}
-use Rattle.bor_http.proofs.OnIncoming.MessageLemmas.{body_len-le, body_short, body_there, message}
+use Rattle.bor_http.proofs.OnIncoming.ReadingLemmas.{few_lines, has_few_lines, head-cut_short, head-found, head-too_large, many_lines}
+use Rattle.bor_http.proofs.OnIncoming.MessageLemmas.{body_len-le, body_short, body_there, message, never_short}
 use Rattle.bor_http.proofs.OnIncoming.ByTable.{head_refused}
 use Rattle.bor_http.proofs.OnIncoming.Laws.{message_unique}
 
@@ -29,9 +27,6 @@ pub scanned_from : (bytes : List ℕ) (n : ℕ) → IsProgress bytes (Searched n
 scanned_from bytes n h =
     let e = scanned_before (take n bytes) (drop n bytes) h.2 in
     rw (take-append-drop, length-take-le n bytes h.0) at e
-
-pub searched_all : (bytes : List ℕ) → length bytes < head_limit → head_len bytes ≡ None → IsProgress bytes (Searched (length bytes))
-searched_all bytes short none = (omega arith, short, rw (take_all (length bytes) bytes (omega arith)) none)
 
 pub cut_short : (bytes : List ℕ) → length bytes < head_limit → head_len bytes ≡ None → IsMessage bytes (Err CutShort)
 cut_short bytes short none = head_refused bytes CutShort (head-cut_short head_limit bytes short none)
@@ -49,56 +44,34 @@ searched_cut bytes n h all =
 
 -- ---- what is refused for what has come
 
-same_refusal : (x y : Result Message Refusal) (a b : Refusal) → x ≡ Err a → y ≡ Err b → x ≡ y → a ≡ b
-same_refusal x y a b is_a is_b e = cc
-
 pub too_large : (bytes : List ℕ) → length bytes ≡ head_limit → head_len bytes ≡ None → IsProgress bytes (Refused HeadTooLarge)
 too_large bytes full none = (
   λ e. cc,
   λ more. head_refused (bytes ++ more) HeadTooLarge (head-too_large head_limit bytes more full none),
 )
 
-pub many_lines_come : (bytes : List ℕ) (n : ℕ) → length bytes ≤ head_limit → head_len bytes ≡ Some n → with_few_lines bytes n ≡ Err HeadTooLarge → IsProgress bytes (Refused HeadTooLarge)
+pub many_lines_come : (bytes : List ℕ) (n : ℕ) → length bytes ≤ head_limit → head_len bytes ≡ Some n → has_few_lines bytes n ≡ false → IsProgress bytes (Refused HeadTooLarge)
 many_lines_come bytes n within head many = (
   λ e. cc,
-  λ more. head_refused (bytes ++ more) HeadTooLarge (head-found head_limit bytes more n within head ∙ many),
+  λ more. head_refused (bytes ++ more) HeadTooLarge (head-found head_limit bytes more n within head ∙ many_lines bytes n many),
 )
 
 -- the input is what its parts make of it, whatever comes
-with_parts : (bytes more : List ℕ) (n : ℕ) (parts : Result Parts Refusal) → length bytes ≤ head_limit → head_len bytes ≡ Some n → with_few_lines bytes n ≡ Ok n
+with_parts : (bytes more : List ℕ) (n : ℕ) (parts : Result Parts Refusal) → length bytes ≤ head_limit → head_len bytes ≡ Some n → has_few_lines bytes n ≡ true
     → HasParts (take n bytes) parts → IsMessage (bytes ++ more) (and_then (with_body (drop n bytes ++ more)) parts)
 with_parts bytes more n parts within head few has =
-    message (bytes ++ more) (take n bytes) (drop n bytes ++ more) n parts (head-found head_limit bytes more n within head ∙ few)
+    message (bytes ++ more) (take n bytes) (drop n bytes ++ more) n parts (head-found head_limit bytes more n within head ∙ few_lines bytes n few)
     (ap (λ b. b ++ more) (sym (take-append-drop n bytes)) ∙ append_assoc (take n bytes) (drop n bytes) more)
     (length-take-le n bytes (head_len-le bytes n head)) has
 
-pub bad_head_comes : (bytes : List ℕ) (n : ℕ) (why : Refusal) → length bytes ≤ head_limit → head_len bytes ≡ Some n → with_few_lines bytes n ≡ Ok n
+pub bad_head_comes : (bytes : List ℕ) (n : ℕ) (why : Refusal) → length bytes ≤ head_limit → head_len bytes ≡ Some n → has_few_lines bytes n ≡ true
     → HasParts (take n bytes) (Err why) → IsProgress bytes (Refused why)
 bad_head_comes bytes n why within head few has = (
   λ e. let bad : why ≡ BadHead = has.0 in let wrong : BadHead ≡ CutShort = sym bad ∙ e in cc,
   λ more. with_parts bytes more n (Err why) within head few has,
 )
 
--- a length is not refused as what is cut short
-never_short : (fields : List FieldText) → body_len fields ≡ Err CutShort → ⊥
-never_short fields e =
-    go (nat_lt 0 (how_many (codes "transfer-encoding") fields)) (nat_lt 1 (how_many (codes "content-length") fields)) (first_value (codes "content-length") fields) e
-  where
-    of_value : (a b : Bool) (v : ℕ) → cond a (cond b (Ok v) (Err BodyTooLarge)) (Err BadLength) ≡ Err CutShort → ⊥
-    of_value true true v e = cc
-    of_value true false v e = cc
-    of_value false b v e = cc
-
-    last : (o : Option (List ℕ)) → option_map_or (length_of body_limit) o (Ok 0) ≡ Err CutShort → ⊥
-    last None e = cc
-    last (Some bytes) e = of_value (is_numeral bytes) (nat_le (digits_value 10 bytes) body_limit) (digits_value 10 bytes) e
-
-    go : (s t : Bool) (o : Option (List ℕ)) → cond s (Err BadLength) (cond t (Err BadLength) (option_map_or (length_of body_limit) o (Ok 0))) ≡ Err CutShort → ⊥
-    go true t o e = cc
-    go false true o e = cc
-    go false false o e = last o e
-
-pub bad_length_comes : (bytes : List ℕ) (n : ℕ) (parts : Parts) (why : Refusal) → length bytes ≤ head_limit → head_len bytes ≡ Some n → with_few_lines bytes n ≡ Ok n
+pub bad_length_comes : (bytes : List ℕ) (n : ℕ) (parts : Parts) (why : Refusal) → length bytes ≤ head_limit → head_len bytes ≡ Some n → has_few_lines bytes n ≡ true
     → HasParts (take n bytes) (Ok parts) → body_len parts.fields ≡ Err why → IsProgress bytes (Refused why)
 bad_length_comes bytes n parts why within head few has bad = (
   λ e. never_short parts.fields (bad ∙ ap Err e),
@@ -120,7 +93,7 @@ begun_as input behind n len spans is sizes = elim (cases_lt (length behind) len)
       rw (there, body_there (parts_at (take n input) spans.method spans.target spans.fields.items) behind len le, size, is) refl
 ]
 
-pub head_comes : (bytes : List ℕ) (n len : ℕ) (spans : HeadSpans) → length bytes ≤ head_limit → head_len bytes ≡ Some n → with_few_lines bytes n ≡ Ok n
+pub head_comes : (bytes : List ℕ) (n len : ℕ) (spans : HeadSpans) → length bytes ≤ head_limit → head_len bytes ≡ Some n → has_few_lines bytes n ≡ true
     → AreWithin (take n bytes) spans.method spans.target spans.fields.items → HasParts (take n bytes) (Ok (parts_at (take n bytes) spans.method spans.target spans.fields.items))
     → body_len (parts_at (take n bytes) spans.method spans.target spans.fields.items).fields ≡ Ok len → IsProgress bytes (Headed (record { spans = spans; len = n; needed = n + len }))
 head_comes bytes n len spans within head few inside has is =
@@ -143,20 +116,14 @@ head_comes bytes n len spans within head few inside has is =
 
 -- ---- whether so many bytes are whole
 
-begun_short : (head : MessageHead) (input : List ℕ) → length input < head.needed → begun_by head input ≡ Err CutShort
-begun_short head input lt = let short : nat_lt (length input) head.needed ≡ true = grind (arith, nat_tests) in rw short refl
-
-begun_there : (head : MessageHead) (input : List ℕ) → head.needed ≤ length input → begun_by head input ≡ Ok (message_by head input)
-begun_there head input le = let there : nat_lt (length input) head.needed ≡ false = grind (arith, nat_tests) in rw there refl
-
 pub says_so : (bytes : List ℕ) (head : MessageHead) → IsHeadOf bytes head → IsMessage bytes (begun_by head bytes)
 says_so bytes head h = rw append-nil at (h.says [])
 
 pub head_cut : (bytes : List ℕ) (head : MessageHead) → IsHeadOf bytes head → length bytes < head.needed → IsMessage bytes (Err CutShort)
-head_cut bytes head h lt = rw (begun_short head bytes lt) at (says_so bytes head h)
+head_cut bytes head h lt = rw (lt-ltb (length bytes) head.needed lt) at (says_so bytes head h)
 
 pub head_whole : (bytes : List ℕ) (head : MessageHead) → IsHeadOf bytes head → head.needed ≤ length bytes → IsMessage bytes (Ok (message_by head bytes))
-head_whole bytes head h le = rw (begun_there head bytes le) at (says_so bytes head h)
+head_whole bytes head h le = rw (le-ltb (length bytes) head.needed le) at (says_so bytes head h)
 
 pub refused_so : (bytes : List ℕ) (why : Refusal) → IsProgress bytes (Refused why) → IsMessage bytes (Err why)
 refused_so bytes why h = rw append-nil at (h.1 [])
@@ -171,7 +138,7 @@ whole_once bytes (Searched n) h all = (
   λ whole. absurd (whole (searched_cut bytes n h all)),
 )
 whole_once bytes (Refused why) h all = (
-  λ le cut. h.0 (same_refusal (Err why) (Err CutShort) why CutShort refl refl (message_unique bytes (Err why) (Err CutShort) (refused_so bytes why h) cut)),
+  λ le cut. let same = message_unique bytes (Err why) (Err CutShort) (refused_so bytes why h) cut in h.0 cc,
   λ whole. omega arith,
 )
 whole_once bytes (Headed head) h all = (

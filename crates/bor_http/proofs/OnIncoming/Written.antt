@@ -1,11 +1,10 @@
 -- Heads that are known byte for byte: by tests that compute, the input begins with one.
-use Rattle.std.proofs.Common.{◌≡◌, ◌<◌, ◌≤◌, ℕ, List, [], ◌∷◌, length, take, map, get_or, Bool, true, Some, sym, ap, ◌∙◌, append-nil, arith}
+use Rattle.std.proofs.Common.{◌≡◌, ℕ, List, [], ◌∷◌, length, take, map, get_or, Bool, true, Some, sym, ap, ◌∙◌, append-nil}
 use Rattle.std.specs.Prelude.{◌&&◌, nat_lt, nat_le, ⊤}
 use Rattle.std.specs.List.{list_all}
 use Rattle.std.specs.Str.{is_utf8, chars}
 use lib.Utf8.{encode}
-use Rattle.std.proofs.lemmas.Bool.{and_parts}
-use Rattle.std.proofs.lemmas.Bool.Decides.{nat_tests}
+use Rattle.std.proofs.lemmas.Bool.{and_parts, leb-true, ltb-true}
 use Rattle.std.proofs.lemmas.List.Sums.{AllPass-from_list_all}
 use Rattle.std.proofs.lemmas.Str.{IsUtf8-from_is_utf8}
 use Rattle.httparse.specs.Grammar.{crlf, Field, IsField, RequestHead, IsRequestHead, IsToken, is_token, is_token_byte, is_uri_byte, is_value_byte, print_request, trim_ows}
@@ -28,16 +27,10 @@ is_line f = is_token f.name && list_all is_value_byte f.raw
 abbrev pub is_head : RequestHead → Bool
 is_head h = is_token h.method && (is_target h.target && (nat_le h.minor 1 && list_all is_line h.fields))
 
-is_some : (n : ℕ) → nat_lt 0 n ≡ true → 0 < n
-is_some n h = grind (arith, nat_tests)
-
-at_most : (n m : ℕ) → nat_le n m ≡ true → n ≤ m
-at_most n m h = grind (arith, nat_tests)
-
 token : (bytes : List ℕ) → is_token bytes ≡ true → IsToken bytes
 token bytes h =
     let both = and_parts (nat_lt 0 (length bytes)) (list_all is_token_byte bytes) h in
-    (is_some (length bytes) both.0, AllPass-from_list_all is_token_byte bytes both.1)
+    (ltb-true 0 (length bytes) both.0, AllPass-from_list_all is_token_byte bytes both.1)
 
 line_fits : (f : Field) → is_line f ≡ true → IsField f
 line_fits f h =
@@ -53,9 +46,9 @@ head_fits h e =
     let all = and_parts (list_all is_uri_byte h.target) (is_utf8 h.target) some.1 in
     record {
       method = token h.method one.0;
-      target = (is_some (length h.target) some.0, AllPass-from_list_all is_uri_byte h.target all.0);
+      target = (ltb-true 0 (length h.target) some.0, AllPass-from_list_all is_uri_byte h.target all.0);
       target_text = IsUtf8-from_is_utf8 h.target all.1;
-      minor = at_most h.minor 1 three.0;
+      minor = leb-true h.minor 1 three.0;
       fields = λ k d lt. line_fits (get_or h.fields k d) (AllPass-from_list_all is_line h.fields three.1 k d lt);
     }
 
@@ -67,7 +60,7 @@ pub begins_with : (input : List ℕ) (p : Parts) (h : RequestHead) → is_head h
 begins_with input p h fits same ends front lines = record {
   end = length (print_request h);
   ends = ends;
-  few_lines = at_most (line_feeds (take (length (print_request h)) input)) line_limit (ap (λ bytes. nat_le (line_feeds bytes) line_limit) front ∙ lines);
+  few_lines = leb-true (line_feeds (take (length (print_request h)) input)) line_limit (ap (λ bytes. nat_le (line_feeds bytes) line_limit) front ∙ lines);
   head = h;
   reads = (head_fits h fits, front ∙ sym (append-nil (print_request h)));
   parts_are = same;

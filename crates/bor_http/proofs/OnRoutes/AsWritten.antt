@@ -1,290 +1,205 @@
 -- The path that is found for a text is the one that it is as it stands.
-use Rattle.std.proofs.Common.{◌≡◌, ℕ, inl, inr, List, [], ◌∷◌, ◌++◌, Option, Some, None, Ok, Err, Bool, true, false, cond, ◌||◌, ◌==◌, codes, refl, sym, ap, ◌∙◌, subst, arith, ◌↔◌}
-use Rattle.std.specs.Prelude.{Result, IsUtf8}
-use Rattle.std.specs.List.{list_any}
+use Rattle.std.proofs.Common.{◌≡◌, ℕ, inl, inr, List, [], ◌∷◌, ◌++◌, length, drop, get_or, nat_eq, Option, Some, None, Bool, true, false, codes, refl, sym, ap, ◌∙◌, subst, arith, append-nil, append_assoc, ◌↔◌}
+use Rattle.std.specs.Prelude.{IsUtf8, ⊤}
+use Rattle.std.specs.List.{starts_with}
 use Rattle.std.specs.Option.{option_map}
+use Rattle.std.proofs.lemmas.Bool.Decides.{Decides-eqb}
+use Rattle.std.proofs.lemmas.Option.{none-some, same_Some}
+use Rattle.std.proofs.lemmas.Slice.Eq.{starts_is}
 use Rattle.matchit.specs.Level.{IsText}
-use Rattle.matchit.specs.Rows.{RowsOf}
-use Rattle.matchit.specs.Router.{RouteOf, route_from}
-use Rattle.matchit.specs.Route.{Scan, parse_route}
+use Rattle.matchit.specs.Rows.{Rows}
+use Rattle.matchit.specs.Router.{RouteOf, map_key, rename}
 use Rattle.matchit.specs.Seek.{first, has_slash}
-use Rattle.matchit.specs.declared.error.InsertError.{InsertError}
 use Rattle.matchit.proofs.OnLiterals.{matchit_on_literals}
+use Rattle.matchit.proofs.RenameLemmas.{first-rename}
+use Rattle.matchit.proofs.SeekLemmas.{seek-empty}
 use Rattle.bor_http.specs.declared.incoming.fault.Path.{Path}
 use Rattle.bor_http.specs.declared.incoming.fault.Path.TheVariants as paths
+use Rattle.bor_http.specs.declared.routes.route.Route.TheVariants.{Lodge}
 use Rattle.bor_http.specs.Incoming.Words.{path_word}
 use Rattle.bor_http.specs.Routes.Paths.{IsSegment, IsPath}
 use Rattle.bor_http.specs.Routes.Routers.{router, path_in}
-use Rattle.bor_http.proofs.OnRoutes.Rows.{led, along, along-found, into, past, found, only_end, seek-none}
+use Rattle.bor_http.specs.Routes.Routes.{every_route, route_line}
+use Rattle.bor_http.proofs.OnIncoming.HeadLemmas.{chosen}
+use Rattle.bor_http.proofs.OnRoutes.Keys.{keyed, keyed_alone, keyed_slash, named, named_alone, named_slash, no_key, parted, slash_is}
+use Rattle.bor_http.proofs.OnRoutes.Rows.{AreApart, branches, literal, walk, walks}
 use Rattle.bor_http.proofs.OnRoutes.Utf8Bytes.{text_bytes}
-use Rattle.bor_http.proofs.OnRoutes.Keys.{keyed, text_of, filing_found, file_found, FoundBehind, filing_of, file_of, found_behind, named, agent_found, NamedBehind, named_behind}
 
--- ---- the router, as rows that begin alike
+-- ---- the router, as branches that end in the numbers of routes
 
-scanned : Result Scan InsertError → Path → RouteOf Path
-scanned (Ok scan) path = route_from scan path
-scanned (Err fault) path = record { pattern = []; text = []; names = []; value = path }
+abbrev path_at : ℕ → Path
+path_at k = (route_line (get_or every_route k Lodge)).path
 
-entry : Path → RouteOf Path
-entry path = scanned (parse_route (path_word path)) path
+abbrev end : ℕ → Rows
+end k = ([], k) ∷ []
 
-entry_value : (path : Path) → (entry path).value ≡ path
-unfolding entry scanned
-entry_value path = by_scan (parse_route (path_word path))
-  where
-    by_scan : (read : Result Scan InsertError) → (scanned read path).value ≡ path
-    by_scan (Ok scan) = refl
-    by_scan (Err fault) = refl
+abbrev of_agents : List (List ℕ × Rows)
+of_agents = (codes "/", named) ∷ []
 
-abbrev end : Path → RowsOf (RouteOf Path)
-end path = ([], entry path) ∷ []
+abbrev of_e : List (List ℕ × Rows)
+of_e = (codes "ntities", end 8) ∷ (codes "vidence", end 7) ∷ []
 
-abbrev of_filings : RowsOf (RouteOf Path)
-of_filings = led (codes "/") (keyed (entry paths.File) (entry paths.Filing)) ++ end paths.Filings
+abbrev of_filings : List (List ℕ × Rows)
+of_filings = (codes "/", keyed) ∷ []
 
-abbrev of_agents : RowsOf (RouteOf Path)
-of_agents = led (codes "/") (named (entry paths.Agent)) ++ end paths.Agents
+abbrev of_all : List (List ℕ × Rows)
+of_all =
+    (codes "agents", branches of_agents (end 10))
+    ∷ (codes "chains", end 6)
+    ∷ (codes "day", end 9)
+    ∷ (codes "e", branches of_e [])
+    ∷ (codes "filings", branches of_filings (end 2))
+    ∷ (codes "published", end 4)
+    ∷ (codes "register", end 12)
+    ∷ (codes "snapshot", end 5)
+    ∷ []
 
-abbrev from_snapshot : RowsOf (RouteOf Path)
-from_snapshot = led (codes "snapshot") (end paths.Snapshot) ++ []
+abbrev from_slash : List (List ℕ × Rows)
+from_slash = (codes "/", branches of_all []) ∷ []
 
-abbrev from_register : RowsOf (RouteOf Path)
-from_register = led (codes "register") (end paths.Register) ++ from_snapshot
+abbrev numbered : Rows
+numbered = branches from_slash []
 
-abbrev from_published : RowsOf (RouteOf Path)
-from_published = led (codes "published") (end paths.Published) ++ from_register
+same_rows : rename (λ (row : RouteOf Path). row.value) router ≡ rename path_at numbered
+unfolding matchit_on_literals router
+same_rows = refl
 
-abbrev from_filings : RowsOf (RouteOf Path)
-from_filings = led (codes "filings") of_filings ++ from_published
+as_mapped : {A B : Type 0} (f : A → B) (o : Option A) → map_key f o ≡ option_map f o
+as_mapped f None = refl
+as_mapped f (Some x) = refl
 
-abbrev from_vidence : RowsOf (RouteOf Path)
-from_vidence = led (codes "vidence") (end paths.Evidence) ++ []
+found_in : (text : List ℕ) → path_in router text ≡ option_map path_at (first numbered text)
+found_in text =
+    sym (as_mapped (λ (row : RouteOf Path). row.value) (first router text))
+    ∙ sym (first-rename (λ (row : RouteOf Path). row.value) router text)
+    ∙ ap (λ rows. first rows text) same_rows
+    ∙ first-rename path_at numbered text
+    ∙ as_mapped path_at (first numbered text)
 
-abbrev of_e : RowsOf (RouteOf Path)
-of_e = led (codes "ntities") (end paths.Entities) ++ from_vidence
+all_apart : AreApart of_all []
+all_apart = assumption
 
-abbrev from_e : RowsOf (RouteOf Path)
-from_e = led (codes "e") of_e ++ from_filings
-
-abbrev from_day : RowsOf (RouteOf Path)
-from_day = led (codes "day") (end paths.Day) ++ from_e
-
-abbrev from_chains : RowsOf (RouteOf Path)
-from_chains = led (codes "chains") (end paths.Chains) ++ from_day
-
-abbrev from_agents : RowsOf (RouteOf Path)
-from_agents = led (codes "agents") of_agents ++ from_chains
-
-router_is : router ≡ led (codes "/") from_agents
-unfolding matchit_on_literals router entry scanned
-router_is = refl
-
--- ---- slashes, and parts of texts
-
-slash_is : (xs : List ℕ) → has_slash xs ≡ list_any (λ b. b == 47) xs
-slash_is [] = refl
-slash_is (b ∷ xs) = by_byte (b == 47) (slash_is xs)
-  where
-    by_byte : (t : Bool) → has_slash xs ≡ list_any (λ b. b == 47) xs → cond t true (has_slash xs) ≡ (t || list_any (λ b. b == 47) xs)
-    by_byte true e = refl
-    by_byte false e = e
-
-text_front : (front rest : List ℕ) → IsText (front ++ rest) → IsText front
-text_front [] rest h = tt
-text_front (b ∷ front) rest h = (h.0, text_front front rest h.1)
+-- ---- a text that is a path is found
 
 text_behind : (front rest : List ℕ) → IsText (front ++ rest) → IsText rest
 text_behind [] rest h = h
 text_behind (b ∷ front) rest h = text_behind front rest h.1
 
--- ---- a text that is a path is found
-
-value_found : (text : List ℕ) (path : Path) → first router text ≡ Some (entry path) → path_in router text ≡ Some path
-value_found text path e = ap (option_map (λ row. row.value)) e ∙ ap Some (entry_value path)
-
--- the walk to what stands behind "/filings"
-to_filings : (rest : List ℕ) → first router (codes "/filings" ++ rest) ≡ first of_filings rest
-to_filings rest =
-    ap (λ rows. first rows (codes "/filings" ++ rest)) router_is
-    ∙ along (codes "/") from_agents (codes "filings" ++ rest) (text_of (codes "/") refl)
-    ∙ past 97 102 (codes "gents") of_agents from_chains (codes "ilings" ++ rest) (omega arith) (record { param = refl; catch_all = refl }) (λ e. omega arith)
-    ∙ past 99 102 (codes "hains") (end paths.Chains) from_day (codes "ilings" ++ rest) (omega arith) (record { param = refl; catch_all = refl }) (λ e. omega arith)
-    ∙ past 100 102 (codes "ay") (end paths.Day) from_e (codes "ilings" ++ rest) (omega arith) (record { param = refl; catch_all = refl }) (λ e. omega arith)
-    ∙ past 101 102 [] of_e from_filings (codes "ilings" ++ rest) (omega arith) (record { param = refl; catch_all = refl }) (λ e. omega arith)
-    ∙ into 102 (codes "ilings") of_filings from_published rest (text_of (codes "filings") refl) (record { param = refl; catch_all = refl }) refl
-
-to_keyed : (rest : List ℕ) → first router (codes "/filings/" ++ rest) ≡ first (keyed (entry paths.File) (entry paths.Filing)) rest
+-- behind "/filings/" and "/agents/"
+to_keyed : (rest : List ℕ) → first numbered (codes "/filings/" ++ rest) ≡ first keyed rest
 to_keyed rest =
-    to_filings (codes "/" ++ rest)
-    ∙ into 47 [] (keyed (entry paths.File) (entry paths.Filing)) (end paths.Filings) rest (text_of (codes "/") refl) (record { param = refl; catch_all = refl }) refl
+    walks from_slash [] (codes "/filings/" ++ rest) (assumption)
+    ∙ walks of_all [] (codes "filings/" ++ rest) all_apart
+    ∙ walks of_filings (end 2) (codes "/" ++ rest) assumption
 
-to_named : (rest : List ℕ) → first router (codes "/agents/" ++ rest) ≡ first (named (entry paths.Agent)) rest
+to_named : (rest : List ℕ) → first numbered (codes "/agents/" ++ rest) ≡ first named rest
 to_named rest =
-    ap (λ rows. first rows (codes "/agents/" ++ rest)) router_is
-    ∙ along (codes "/") from_agents (codes "agents/" ++ rest) (text_of (codes "/") refl)
-    ∙ into 97 (codes "gents") of_agents from_chains (codes "/" ++ rest) (text_of (codes "agents") refl) (record { param = refl; catch_all = refl }) refl
-    ∙ into 47 [] (named (entry paths.Agent)) (end paths.Agents) rest (text_of (codes "/") refl) (record { param = refl; catch_all = refl }) refl
-
--- a text that is a path's word, which the rows find
-word_found : (text : List ℕ) (path : Path) → text ≡ path_word path → first (led (codes "/") from_agents) (path_word path) ≡ Some (entry path)
-    → path_in router text ≡ Some path
-word_found text path is found =
-    value_found text path (ap (λ rows. first rows text) router_is ∙ ap (λ t. first (led (codes "/") from_agents) t) is ∙ found)
+    walks from_slash [] (codes "/agents/" ++ rest) (assumption)
+    ∙ walks of_all [] (codes "agents/" ++ rest) all_apart
+    ∙ walks of_agents (end 10) (codes "/" ++ rest) assumption
 
 pub is_found : (path : Path) (text : List ℕ) → IsText text → IsPath path text → path_in router text ≡ Some path
 unfolding matchit_on_literals
 is_found paths.Filing text bytes (key, segment, is) =
-    let slash : has_slash key ≡ false = slash_is key ∙ segment.one in
-    ap (path_in router) is ∙ value_found (codes "/filings/" ++ key) paths.Filing
-    (to_keyed key ∙ filing_found (entry paths.File) (entry paths.Filing) key (text_behind (codes "/filings/") key (subst IsText is bytes)) segment.some slash)
+    ap (path_in router) is ∙ found_in (codes "/filings/" ++ key)
+    ∙ ap (option_map path_at) (to_keyed key ∙ keyed_alone key (text_behind (codes "/filings/") key (subst IsText is bytes)) segment.some (slash_is key ∙ segment.one))
 is_found paths.File text bytes (key, segment, is) =
-    let slash : has_slash key ≡ false = slash_is key ∙ segment.one in
-    ap (path_in router) is ∙ value_found (codes "/filings/" ++ key ++ codes "/file") paths.File
-    (to_keyed (key ++ codes "/file") ∙ file_found (entry paths.File) (entry paths.Filing) key
-    (text_front key (codes "/file") (text_behind (codes "/filings/") (key ++ codes "/file") (subst IsText is bytes))) segment.some slash)
-is_found paths.Filings text bytes is = word_found text paths.Filings is refl
-is_found paths.Published text bytes is = word_found text paths.Published is refl
-is_found paths.Snapshot text bytes is = word_found text paths.Snapshot is refl
-is_found paths.Chains text bytes is = word_found text paths.Chains is refl
-is_found paths.Evidence text bytes is = word_found text paths.Evidence is refl
-is_found paths.Entities text bytes is = word_found text paths.Entities is refl
-is_found paths.Day text bytes is = word_found text paths.Day is refl
-is_found paths.Agents text bytes is = word_found text paths.Agents is refl
+    ap (path_in router) is ∙ found_in (codes "/filings/" ++ key ++ codes "/file")
+    ∙ ap (option_map path_at) (to_keyed (key ++ codes "/file")
+    ∙ keyed_slash key (codes "file") (text_behind (codes "/filings/") (key ++ codes "/file") (subst IsText is bytes)) segment.some (slash_is key ∙ segment.one))
 is_found paths.Agent text bytes (name, segment, is) =
-    let slash : has_slash name ≡ false = slash_is name ∙ segment.one in
-    ap (path_in router) is ∙ value_found (codes "/agents/" ++ name) paths.Agent
-    (to_named name ∙ agent_found (entry paths.Agent) name (text_behind (codes "/agents/") name (subst IsText is bytes)) segment.some slash)
-is_found paths.Register text bytes is = word_found text paths.Register is refl
+    ap (path_in router) is ∙ found_in (codes "/agents/" ++ name)
+    ∙ ap (option_map path_at) (to_named name ∙ named_alone name (text_behind (codes "/agents/") name (subst IsText is bytes)) segment.some (slash_is name ∙ segment.one))
+is_found path text bytes is = ap (path_in router) is ∙ found_in (path_word path)
 
 -- ---- what is found is the path that the text is
 
-abbrev Row : Type 0
-Row = RouteOf Path
+-- a text behind these bytes, of which the rows find a route, has the route's path
+abbrev Means : List ℕ → Rows → Type 0
+Means front rows = (rest : List ℕ) (k : ℕ) → IsText rest → first rows rest ≡ Some k → IsPath (path_at k) (front ++ rest)
 
-some_row : (found : Option Row) (path : Path) → option_map (λ row. row.value) found ≡ Some path → (row : Row) × (found ≡ Some row) × (row.value ≡ path)
-some_row None path e = cc
-some_row (Some row) path e = (row, refl, cc)
+abbrev EachMeans : List ℕ → List (List ℕ × Rows) → Type 0
+EachMeans front [] = ⊤
+EachMeans front ((w, rows) ∷ more) = Means (front ++ w) rows × EachMeans front more
 
--- a path that is found where its text ends
-leaf : (path : Path) (w rest behind : List ℕ) (row : Row) → ((text : List ℕ) → text ≡ path_word path → IsPath path text)
-    → 47 ∷ (w ++ []) ≡ path_word path → rest ≡ w ++ behind → first (end path) behind ≡ Some row → IsPath row.value (47 ∷ rest)
-leaf path w rest behind row plain word is e =
-    let last = only_end (entry path) row behind e in
-    subst (λ q. IsPath q (47 ∷ rest)) (sym (entry_value path) ∙ ap (λ r. r.value) last.1)
-    (plain (47 ∷ rest) (ap (λ xs. 47 ∷ xs) (is ∙ ap (λ xs. w ++ xs) last.0) ∙ word))
+none_means : (front : List ℕ) → Means front []
+none_means front rest k bytes e = absurd (none-some k (sym (seek-empty 0 rest) ∙ e))
 
-behind_filings : (rest key : List ℕ) (row : Row) → rest ≡ codes "filings/" ++ key → FoundBehind (entry paths.File) (entry paths.Filing) row key
-    → IsPath row.value (47 ∷ rest)
-behind_filings rest key row is (filing_of some one eq) =
-    let segment : IsSegment key = record { some = some; one = sym (slash_is key) ∙ one } in
-    subst (λ q. IsPath q (47 ∷ rest)) (sym (entry_value paths.Filing) ∙ ap (λ r. r.value) eq) (key, segment, ap (λ xs. 47 ∷ xs) is)
-behind_filings rest key row is (file_of name some one text eq) =
-    let segment : IsSegment name = record { some = some; one = sym (slash_is name) ∙ one } in
-    subst (λ q. IsPath q (47 ∷ rest)) (sym (entry_value paths.File) ∙ ap (λ r. r.value) eq)
-    (name, segment, ap (λ xs. 47 ∷ xs) (is ∙ ap (λ xs. codes "filings/" ++ xs) text))
+end_means : (front : List ℕ) (k : ℕ) → IsPath (path_at k) front → Means front (end k)
+unfolding matchit_on_literals
+end_means front k is [] j bytes e = subst (λ i. IsPath (path_at i) (front ++ [])) (same_Some k j e) (subst (IsPath (path_at k)) (sym (append-nil front)) is)
+end_means front k is (b ∷ rest) j bytes e = absurd (none-some j (sym (literal (end k) b rest refl refl ∙ seek-empty 0 rest) ∙ e))
 
-in_filings : (rest behind : List ℕ) (row : Row) → IsText rest → rest ≡ codes "filings" ++ behind → first of_filings behind ≡ Some row → IsPath row.value (47 ∷ rest)
-in_filings rest behind row bytes is e =
-    elim (found 47 [] (keyed (entry paths.File) (entry paths.Filing)) (end paths.Filings) behind row (text_of (codes "/") refl) (record { param = refl; catch_all = refl }) refl e) [
+walk_means : (front rest : List ℕ) (k : ℕ) (bs : List (List ℕ × Rows)) (others : Rows) → IsText rest → EachMeans front bs → Means front others
+    → walk bs others rest ≡ Some k → IsPath (path_at k) (front ++ rest)
+walk_means front rest k [] others bytes each otherwise e = otherwise rest k bytes e
+walk_means front rest k ((w, rows) ∷ more) others bytes each otherwise e =
+    elim (chosen (starts_with nat_eq rest w) (first rows (drop (length w) rest)) (walk more others rest) (Some k) e) [
       | inl h ↦
-          let whole : rest ≡ codes "filings/" ++ h.0 = is ∙ ap (λ xs. codes "filings" ++ xs) h.1 in
-          behind_filings rest h.0 row whole
-          (found_behind (entry paths.File) (entry paths.Filing) row h.0 (text_behind (codes "filings/") h.0 (subst IsText whole bytes)) h.2)
-      | inr h ↦ leaf paths.Filings (codes "filings") rest behind row (λ text e. e) refl is h
+          let whole : rest ≡ w ++ drop (length w) rest = (starts_is Decides-eqb rest w (starts_with nat_eq rest w) refl).0 h.0 in
+          subst (IsPath (path_at k)) (append_assoc front w (drop (length w) rest) ∙ ap (λ text. front ++ text) (sym whole))
+          (each.0 (drop (length w) rest) k (text_behind w (drop (length w) rest) (subst IsText whole bytes)) h.1)
+      | inr h ↦ walk_means front rest k more others bytes each.1 otherwise h.1
     ]
 
-not_both : (found : Option Row) (row : Row) → found ≡ None → found ≡ Some row → ⊥
-not_both None row none some = cc
-not_both (Some other) row none some = cc
+branches_mean : (front : List ℕ) (bs : List (List ℕ × Rows)) (others : Rows) → AreApart bs others → EachMeans front bs → Means front others → Means front (branches bs others)
+branches_mean front bs others apart each otherwise rest k bytes e =
+    walk_means front rest k bs others bytes each otherwise (sym (walks bs others rest apart) ∙ e)
 
-in_snapshot : (rest : List ℕ) (row : Row) → first from_snapshot rest ≡ Some row → IsPath row.value (47 ∷ rest)
-in_snapshot rest row e =
-    elim (found 115 (codes "napshot") (end paths.Snapshot) [] rest row (text_of (codes "snapshot") refl) (record { param = refl; catch_all = refl }) refl e) [
-      | inl h ↦ leaf paths.Snapshot (codes "snapshot") rest h.0 row (λ text e. e) refl h.1 h.2
-      | inr h ↦ absurd (not_both (first [] rest) row (seek-none 0 rest) h)
-    ]
+named_means : Means (codes "/agents/") named
+unfolding matchit_on_literals
+named_means [] k bytes e = absurd (none-some k e)
+named_means (b ∷ name) k bytes e = by_slash (has_slash (b ∷ name)) refl
+  where
+    by_slash : (slash : Bool) → has_slash (b ∷ name) ≡ slash → IsPath (path_at k) (codes "/agents/" ++ b ∷ name)
+    by_slash true h = absurd (none-some k (sym (named_slash b name bytes.0 h) ∙ e))
+    by_slash false h =
+        let segment : IsSegment (b ∷ name) = record { some = omega arith; one = sym (slash_is (b ∷ name)) ∙ h } in
+        subst (λ i. IsPath (path_at i) (codes "/agents/" ++ b ∷ name)) (same_Some 11 k (sym (named_alone (b ∷ name) bytes segment.some h) ∙ e)) (b ∷ name, segment, refl)
 
-in_register : (rest : List ℕ) (row : Row) → first from_register rest ≡ Some row → IsPath row.value (47 ∷ rest)
-in_register rest row e =
-    elim (found 114 (codes "egister") (end paths.Register) from_snapshot rest row (text_of (codes "register") refl) (record { param = refl; catch_all = refl }) refl e) [
-      | inl h ↦ leaf paths.Register (codes "register") rest h.0 row (λ text e. e) refl h.1 h.2
-      | inr h ↦ in_snapshot rest row h
+keyed_means : Means (codes "/filings/") keyed
+unfolding matchit_on_literals
+keyed_means [] k bytes e = absurd (none-some k e)
+keyed_means (b ∷ text) k bytes e =
+    elim (parted (b ∷ text)) [
+      | inl none ↦
+          let segment : IsSegment (b ∷ text) = record { some = omega arith; one = sym (slash_is (b ∷ text)) ∙ none } in
+          subst (λ i. IsPath (path_at i) (codes "/filings/" ++ b ∷ text)) (same_Some 0 k (sym (keyed_alone (b ∷ text) bytes segment.some none) ∙ e)) (b ∷ text, segment, refl)
+      | inr h ↦ by_key h.0 h.1 h.2 h.3
     ]
+  where
+    by_key : (key rest : List ℕ) → (b ∷ text) ≡ key ++ 47 ∷ rest → has_slash key ≡ false → IsPath (path_at k) (codes "/filings/" ++ b ∷ text)
+    by_key [] rest whole none = absurd (none-some k (sym (ap (λ xs. first keyed xs) whole ∙ no_key rest) ∙ e))
+    by_key (a ∷ key) rest whole none =
+        let all : IsText ((a ∷ key) ++ 47 ∷ rest) = subst IsText whole bytes in
+        let segment : IsSegment (a ∷ key) = record { some = omega arith; one = sym (slash_is (a ∷ key)) ∙ none } in
+        let front : List ℕ = codes "/filings/" ++ a ∷ key in
+        let means : Means front (branches ((codes "/file", end 3) ∷ []) []) =
+        branches_mean front ((codes "/file", end 3) ∷ []) [] (assumption) (end_means (front ++ codes "/file") 3 (a ∷ key, segment, refl), tt) (none_means front) in
+        subst (λ xs. IsPath (path_at k) (codes "/filings/" ++ xs)) (sym whole)
+        (means (47 ∷ rest) k (text_behind (a ∷ key) (47 ∷ rest) all) (sym (ap (λ xs. first keyed xs) whole ∙ keyed_slash (a ∷ key) rest all segment.some none) ∙ e))
 
-in_published : (rest : List ℕ) (row : Row) → first from_published rest ≡ Some row → IsPath row.value (47 ∷ rest)
-in_published rest row e =
-    elim (found 112 (codes "ublished") (end paths.Published) from_register rest row (text_of (codes "published") refl) (record { param = refl; catch_all = refl }) refl e) [
-      | inl h ↦ leaf paths.Published (codes "published") rest h.0 row (λ text e. e) refl h.1 h.2
-      | inr h ↦ in_register rest row h
-    ]
+router_means : Means [] numbered
+router_means =
+    let agents : Means (codes "/agents") (branches of_agents (end 10)) =
+    branches_mean (codes "/agents") of_agents (end 10) (assumption) (named_means, tt) (end_means (codes "/agents") 10 refl) in
+    let by_e : Means (codes "/e") (branches of_e []) =
+    branches_mean (codes "/e") of_e [] (assumption) (end_means (codes "/entities") 8 refl, (end_means (codes "/evidence") 7 refl, tt)) (none_means (codes "/e")) in
+    let filings : Means (codes "/filings") (branches of_filings (end 2)) =
+    branches_mean (codes "/filings") of_filings (end 2) (assumption) (keyed_means, tt) (end_means (codes "/filings") 2 refl) in
+    let last : EachMeans (codes "/") ((codes "published", end 4) ∷ (codes "register", end 12) ∷ (codes "snapshot", end 5) ∷ []) =
+    (end_means (codes "/published") 4 refl, (end_means (codes "/register") 12 refl, (end_means (codes "/snapshot") 5 refl, tt))) in
+    let all : EachMeans (codes "/") of_all = (agents, (end_means (codes "/chains") 6 refl, (end_means (codes "/day") 9 refl, (by_e, (filings, last))))) in
+    branches_mean [] from_slash [] (assumption) (branches_mean (codes "/") of_all [] all_apart all (none_means (codes "/")), tt) (none_means [])
 
-from_filings_on : (rest : List ℕ) (row : Row) → IsText rest → first from_filings rest ≡ Some row → IsPath row.value (47 ∷ rest)
-from_filings_on rest row bytes e =
-    elim (found 102 (codes "ilings") of_filings from_published rest row (text_of (codes "filings") refl) (record { param = refl; catch_all = refl }) refl e) [
-      | inl h ↦ in_filings rest h.0 row bytes h.1 h.2
-      | inr h ↦ in_published rest row h
-    ]
-
-in_evidence : (rest behind : List ℕ) (row : Row) → rest ≡ codes "e" ++ behind → first from_vidence behind ≡ Some row → IsPath row.value (47 ∷ rest)
-in_evidence rest behind row is e =
-    elim (found 118 (codes "idence") (end paths.Evidence) [] behind row (text_of (codes "vidence") refl) (record { param = refl; catch_all = refl }) refl e) [
-      | inl h ↦ leaf paths.Evidence (codes "evidence") rest h.0 row (λ text e. e) refl (is ∙ ap (λ xs. codes "e" ++ xs) h.1) h.2
-      | inr h ↦ absurd (not_both (first [] behind) row (seek-none 0 behind) h)
-    ]
-
-in_e : (rest behind : List ℕ) (row : Row) → rest ≡ codes "e" ++ behind → first of_e behind ≡ Some row → IsPath row.value (47 ∷ rest)
-in_e rest behind row is e =
-    elim (found 110 (codes "tities") (end paths.Entities) from_vidence behind row (text_of (codes "ntities") refl) (record { param = refl; catch_all = refl }) refl e) [
-      | inl h ↦ leaf paths.Entities (codes "entities") rest h.0 row (λ text e. e) refl (is ∙ ap (λ xs. codes "e" ++ xs) h.1) h.2
-      | inr h ↦ in_evidence rest behind row is h
-    ]
-
-from_e_on : (rest : List ℕ) (row : Row) → IsText rest → first from_e rest ≡ Some row → IsPath row.value (47 ∷ rest)
-from_e_on rest row bytes e =
-    elim (found 101 [] of_e from_filings rest row (text_of (codes "e") refl) (record { param = refl; catch_all = refl }) refl e) [
-      | inl h ↦ in_e rest h.0 row h.1 h.2
-      | inr h ↦ from_filings_on rest row bytes h
-    ]
-
-from_day_on : (rest : List ℕ) (row : Row) → IsText rest → first from_day rest ≡ Some row → IsPath row.value (47 ∷ rest)
-from_day_on rest row bytes e =
-    elim (found 100 (codes "ay") (end paths.Day) from_e rest row (text_of (codes "day") refl) (record { param = refl; catch_all = refl }) refl e) [
-      | inl h ↦ leaf paths.Day (codes "day") rest h.0 row (λ text e. e) refl h.1 h.2
-      | inr h ↦ from_e_on rest row bytes h
-    ]
-
-from_chains_on : (rest : List ℕ) (row : Row) → IsText rest → first from_chains rest ≡ Some row → IsPath row.value (47 ∷ rest)
-from_chains_on rest row bytes e =
-    elim (found 99 (codes "hains") (end paths.Chains) from_day rest row (text_of (codes "chains") refl) (record { param = refl; catch_all = refl }) refl e) [
-      | inl h ↦ leaf paths.Chains (codes "chains") rest h.0 row (λ text e. e) refl h.1 h.2
-      | inr h ↦ from_day_on rest row bytes h
-    ]
-
-in_agents : (rest behind : List ℕ) (row : Row) → IsText rest → rest ≡ codes "agents" ++ behind → first of_agents behind ≡ Some row → IsPath row.value (47 ∷ rest)
-in_agents rest behind row bytes is e =
-    elim (found 47 [] (named (entry paths.Agent)) (end paths.Agents) behind row (text_of (codes "/") refl) (record { param = refl; catch_all = refl }) refl e) [
-      | inl h ↦
-          let whole : rest ≡ codes "agents/" ++ h.0 = is ∙ ap (λ xs. codes "agents" ++ xs) h.1 in
-          let b : NamedBehind (entry paths.Agent) row h.0 =
-          named_behind (entry paths.Agent) row h.0 (text_behind (codes "agents/") h.0 (subst IsText whole bytes)) h.2 in
-          let segment : IsSegment h.0 = record { some = b.some; one = sym (slash_is h.0) ∙ b.one } in
-          subst (λ q. IsPath q (47 ∷ rest)) (sym (entry_value paths.Agent) ∙ ap (λ r. r.value) b.is) (h.0, segment, ap (λ xs. 47 ∷ xs) whole)
-      | inr h ↦ leaf paths.Agents (codes "agents") rest behind row (λ text e. e) refl is h
-    ]
-
-from_agents_on : (rest : List ℕ) (row : Row) → IsText rest → first from_agents rest ≡ Some row → IsPath row.value (47 ∷ rest)
-from_agents_on rest row bytes e =
-    elim (found 97 (codes "gents") of_agents from_chains rest row (text_of (codes "agents") refl) (record { param = refl; catch_all = refl }) refl e) [
-      | inl h ↦ in_agents rest h.0 row bytes h.1 h.2
-      | inr h ↦ from_chains_on rest row bytes h
-    ]
+some_key : (found : Option ℕ) (path : Path) → option_map path_at found ≡ Some path → (k : ℕ) × (found ≡ Some k) × (path_at k ≡ path)
+some_key None path e = absurd (none-some path e)
+some_key (Some k) path e = (k, refl, same_Some (path_at k) path e)
 
 pub is_path : (path : Path) (text : List ℕ) → IsText text → path_in router text ≡ Some path → IsPath path text
 is_path path text bytes e =
-    let row = some_row (first router text) path e in
-    let from = along-found (codes "/") from_agents text row.0 (text_of (codes "/") refl) (ap (λ rows. first rows text) (sym router_is) ∙ row.1) in
-    let rest : IsText from.0 = text_behind (codes "/") from.0 (subst IsText from.1 bytes) in
-    subst (λ q. IsPath q text) row.2 (subst (λ t. IsPath row.0.value t) (sym from.1) (from_agents_on from.0 row.0 rest from.2))
+    let key = some_key (first numbered text) path (sym (found_in text) ∙ e) in
+    subst (λ p. IsPath p text) key.2 (router_means text key.0 bytes key.1)
 
 pub written : (text : List ℕ) → IsUtf8 text → (found : Option Path) → found ≡ path_in router text → (path : Path) → (found ≡ Some path) ↔ IsPath path text
 written text h found is path =

@@ -1,5 +1,5 @@
 -- The table of routes computed: the path of a text, what it asks for by a method, and its methods.
-use Rattle.std.proofs.Common.{◌≡◌, ℕ, List, [], ◌∷◌, Option, Some, None, true, false, codes, map, refl}
+use Rattle.std.proofs.Common.{◌≡◌, ℕ, List, [], ◌∷◌, ◌++◌, Option, Some, None, true, false, codes, map, refl}
 use Rattle.bor_http.specs.declared.incoming.fault.Path.{Path}
 use Rattle.bor_http.specs.declared.incoming.fault.Path.TheVariants as paths
 use Rattle.bor_http.specs.declared.routes.route.Route.{Route}
@@ -58,10 +58,6 @@ each_path =
     ∷ (codes "/register", Some paths.Register)
     ∷ []
 
-each_path_found : found each_path ≡ expected each_path
-unfolding path_of
-each_path_found = refl
-
 -- any segment stands for a key, whatever its bytes are; nothing is decoded
 abbrev as_it_stands : Cases
 as_it_stands =
@@ -75,10 +71,6 @@ as_it_stands =
     ∷ (codes "/filin%67s", None)
     ∷ []
 
-as_it_stands_found : found as_it_stands ≡ expected as_it_stands
-unfolding path_of
-as_it_stands_found = refl
-
 -- no segment is empty
 abbrev empty_segments : Cases
 empty_segments =
@@ -88,10 +80,6 @@ empty_segments =
     ∷ (codes "//day", None)
     ∷ (codes "/agents/", None)
     ∷ []
-
-empty_segments_found : found empty_segments ≡ expected empty_segments
-unfolding path_of
-empty_segments_found = refl
 
 -- none is left over
 abbrev further_segments : Cases
@@ -103,10 +91,6 @@ further_segments =
     ∷ (codes "/agents/cedar/", None)
     ∷ (codes "/agents/cedar/file", None)
     ∷ []
-
-further_segments_found : found further_segments ≡ expected further_segments
-unfolding path_of
-further_segments_found = refl
 
 -- a path is neither longer nor shorter, and letters are compared as they stand
 abbrev other_texts : Cases
@@ -124,9 +108,12 @@ other_texts =
     ∷ ([], None)
     ∷ []
 
-other_texts_found : found other_texts ≡ expected other_texts
+abbrev every_text : Cases
+every_text = each_path ++ as_it_stands ++ empty_segments ++ further_segments ++ other_texts
+
+every_text_found : found every_text ≡ expected every_text
 unfolding path_of
-other_texts_found = refl
+every_text_found = refl
 
 -- ---- what a path asks for by a method
 

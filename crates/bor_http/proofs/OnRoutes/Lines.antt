@@ -1,8 +1,10 @@
 -- The lines of the table of routes, as the code has them.
-use Rattle.std.proofs.Common.{◌≡◌, ◌<◌, ℕ, zero, suc, drop, length, slice_index_or, arith, List, [], ◌∷◌, ◌&&◌, Bool, true, false, Option, Some, None, refl, sym, ap, ◌∙◌}
+use Rattle.std.proofs.Common.{◌≡◌, ◌<◌, ℕ, zero, suc, drop, length, slice_index_or, arith, List, [], ◌∷◌, ◌&&◌, true, false, Option, Some, None, refl, sym, ap, ◌∙◌}
 use Rattle.std.specs.Prelude.{if◌then◌else◌}
 use Rattle.std.specs.Borrow.{Bor}
 use Rattle.std.specs.Str.{bytes_eq}
+use Rattle.std.proofs.lemmas.Bool.{false_from_ne_true}
+use Rattle.std.proofs.lemmas.Option.{same_Some}
 use Rattle.std.proofs.lemmas.Slice.Eq.{bytes_eq-Decides}
 use Rattle.bor_http.specs.declared.incoming.fault.Path.{Path}
 use Rattle.bor_http.specs.declared.incoming.fault.Path.TheVariants as paths
@@ -30,27 +32,12 @@ passed (line ∷ lines) (suc i) other path method lt isnt = passed lines i other
 word_back : (path : Path) → path_of (path_word path) ≡ Some path
 unfolding path_of
 word_back paths.Filing = refl
-word_back paths.Filings = refl
-word_back paths.File = refl
-word_back paths.Published = refl
-word_back paths.Snapshot = refl
-word_back paths.Chains = refl
-word_back paths.Evidence = refl
-word_back paths.Entities = refl
-word_back paths.Day = refl
-word_back paths.Agents = refl
-word_back paths.Agent = refl
-word_back paths.Register = refl
+word_back path = refl
 
 pub same_path : (path : Path) → is_same_path path path ≡ true
 same_path path = (bytes_eq-Decides (path_word path) (path_word path)).1 refl
 
 pub other_path : (a b : Path) → (a ≡ b → ⊥) → is_same_path a b ≡ false
-other_path a b other = by_words (is_same_path a b) refl
-  where
-    by_words : (same : Bool) → is_same_path a b ≡ same → same ≡ false
-    by_words true is =
-        let words : path_word a ≡ path_word b = (bytes_eq-Decides (path_word a) (path_word b)).0 is in
-        let both : Some a ≡ Some b = sym (word_back a) ∙ ap path_of words ∙ word_back b in
-        absurd (other cc)
-    by_words false is = refl
+other_path a b other = false_from_ne_true (is_same_path a b) (λ is.
+    let words : path_word a ≡ path_word b = (bytes_eq-Decides (path_word a) (path_word b)).0 is in
+    other (same_Some a b (sym (word_back a) ∙ ap path_of words ∙ word_back b)))

@@ -1,6 +1,7 @@
 -- The bytes of a text are bytes.
-use Rattle.std.proofs.Common.{◌≡◌, ◌<◌, ◌+◌, ◌/◌, ◌%◌, ℕ, List, [], ◌∷◌, ◌++◌, inl, inr, Bool, true, false, cond, ◌&&◌, refl, subst, arith}
+use Rattle.std.proofs.Common.{◌≡◌, ◌<◌, ◌+◌, ◌/◌, ◌%◌, ℕ, List, [], ◌∷◌, ◌++◌, inl, inr, Bool, true, false, cond, refl, subst, arith}
 use Rattle.std.specs.Prelude.{IsUtf8, nat_lt}
+use Rattle.std.proofs.lemmas.Bool.{and_parts}
 use Rattle.std.proofs.lemmas.Bool.Decides.{nat_tests}
 use lib.Utf8.{encode, encodes, scalars, scalar, scalar_cases}
 use Rattle.matchit.specs.Level.{IsText}
@@ -33,11 +34,9 @@ encoded c h = encoded_by c (nat_lt c 128) (nat_lt c 2048) (nat_lt c 65536) (belo
 
 encoded_all : (cs : List ℕ) → scalars cs ≡ true → IsText (encodes cs)
 encoded_all [] h = tt
-encoded_all (c ∷ cs) h = by_test (scalar c) refl h (encoded_all cs)
-  where
-    by_test : (t : Bool) → scalar c ≡ t → (t && scalars cs) ≡ true → (scalars cs ≡ true → IsText (encodes cs)) → IsText (encode c ++ encodes cs)
-    by_test true e more later = text_both (encode c) (encodes cs) (encoded c e) (later more)
-    by_test false e more later = cc
+encoded_all (c ∷ cs) h =
+    let two = and_parts (scalar c) (scalars cs) h in
+    text_both (encode c) (encodes cs) (encoded c two.0) (encoded_all cs two.1)
 
 pub text_bytes : (text : List ℕ) → IsUtf8 text → IsText text
 text_bytes text h = subst IsText h.1.1 (encoded_all h.0 h.1.0)

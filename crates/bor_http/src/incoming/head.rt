@@ -38,6 +38,7 @@ fn blank_at(bytes: &[u8], at: usize) -> usize
 }
 
 // The length of the head at the front of the bytes, if it has come.
+#[tactic(auto, using(crate::proofs::OnIncoming::HeadLemmas::head_rules))]
 fn head_end(bytes: &[u8]) -> Option<usize>
     ensures value { result ≡ head_len bytes.now }
     ensures within { IfSome result (λ n. n ≤ length bytes.now) }
@@ -111,6 +112,7 @@ pub(crate) fn find_value<'a>(head: &'a [u8], fields: &[HeaderSpan], name: &[u8])
 }
 
 // The number that the digits give, up to one past the limit, if all are digits.
+#[tactic(auto, using(crate::proofs::OnIncoming::LengthLemmas::digits_step, crate::proofs::OnIncoming::LengthLemmas::value_step))]
 fn decimal(bytes: &[u8]) -> Option<usize>
     ensures { result ≡ (if list_all is_ascii_digit bytes.now
         then Some (min (digits_value 10 bytes.now) (body_limit + 1)) else None) }
@@ -140,6 +142,7 @@ fn announced(bytes: &[u8]) -> Result<usize, Refusal>
 }
 
 /// The length of the body that follows a head with these fields.
+#[tactic(auto, using(crate::proofs::OnIncoming::OnePass::encoded_at, crate::proofs::OnIncoming::OnePass::twice_at))]
 pub(crate) fn body_length(head: &[u8], fields: &[HeaderSpan]) -> Result<usize, Refusal>
     requires { All (IsHeaderWithin (length head.now)) fields.now }
     ensures { result ≡ body_len (map (header_bytes head.now) fields.now) }

@@ -9,6 +9,7 @@ pub fn an_input_is_one_request()
 {}
 
 /// The bytes behind the body of a request have no part in it.
+#[tactic(auto, using(crate::proofs::OnIncoming::Laws::rest_ignored))]
 pub fn what_stands_behind_is_ignored()
     ensures { RestIsIgnored }
 {}

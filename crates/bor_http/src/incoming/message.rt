@@ -43,6 +43,7 @@ pub struct MessageHead {
 
 impl MessageHead {
     /// The request in the bytes that begin with this head, or that it is cut short.
+    #[tactic(auto, using(crate::proofs::OnIncoming::ProgressLemmas::head_cut, crate::proofs::OnIncoming::ProgressLemmas::head_whole))]
     pub(crate) fn message<'a>(self, bytes: &'a [u8]) -> Result<RawRequest<'a>, WireFault>
         requires { IsHeadOf bytes.now self }
         ensures { IsReadAs bytes.now result }
@@ -59,6 +60,7 @@ impl MessageHead {
 }
 
 /// Takes apart bytes that are to be one head and nothing else.
+#[tactic(auto, using(crate::proofs::OnIncoming::PartsLemmas::not_whole))]
 pub(crate) fn parse_head(alloc: Global, head: &[u8]) -> Result<HeadSpans, WireFault>
     requires { line_feeds head.now ≤ line_limit }
     ensures within { IfOk result (λ s. AreWithin head.now s.method s.target s.fields.items) }

@@ -24,6 +24,7 @@ pub enum Progress {
 
 impl Progress {
     /// That nothing is known, as before the first byte.
+    #[tactic(auto, unfolding(crate::specs::Incoming::Head::head_len))]
     pub fn none() -> Progress
         ensures known { (bytes : List ℕ) → IsProgress bytes result }
         ensures needs { needs result ≡ head_limit }
@@ -37,6 +38,7 @@ impl Progress {
     ///
     /// There is no memory for taking the head apart. What was known is lost; [`Progress::none`] may
     /// be taken in its place.
+    #[tactic(auto, using(crate::proofs::OnIncoming::ProgressLemmas::whole_once))]
     pub fn after(self, alloc: Global, bytes: &[u8]) -> Result<Progress, AllocError>
         requires { IsProgress bytes.now self }
         ensures known { IfOk result (IsProgress bytes.now) }
@@ -77,6 +79,7 @@ impl Progress {
     /// # Errors
     ///
     /// Those of `message_in`.
+    #[tactic(auto, using(crate::proofs::OnIncoming::ProgressLemmas::refused_so, crate::proofs::OnIncoming::ProgressLemmas::searched_cut))]
     pub fn message<'a>(self, alloc: Global, bytes: &'a [u8]) -> Result<RawRequest<'a>, WireFault>
         requires { IsProgress bytes.now self }
         ensures { IsReadAs bytes.now result }
@@ -90,6 +93,7 @@ impl Progress {
 }
 
 // Looks for the end of the head in the bytes that may be one, behind as many as were searched.
+#[tactic(auto, using(crate::proofs::OnIncoming::ProgressLemmas::scanned_from, crate::proofs::OnIncoming::ProgressLemmas::too_large))]
 fn search(alloc: Global, front: &[u8], searched: usize) -> Result<Progress, AllocError>
     requires known { IsProgress front.now (Searched searched) }
     requires within { length front.now ≤ head_limit }
@@ -104,6 +108,7 @@ fn search(alloc: Global, front: &[u8], searched: usize) -> Result<Progress, Allo
 }
 
 // The progress on bytes of which the first `len` are a head.
+#[tactic(auto, using(crate::proofs::OnIncoming::ProgressLemmas::head_comes, crate::proofs::OnIncoming::ProgressLemmas::many_lines_come))]
 fn taken_apart(alloc: Global, front: &[u8], len: usize) -> Result<Progress, AllocError>
     requires head { head_len front.now ≡ Some len }
     requires within { length front.now ≤ head_limit }

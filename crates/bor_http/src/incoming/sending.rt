@@ -10,6 +10,7 @@ use std::io::Write;
 
 /// Writes all bytes, and tells whether it did: it stops at the first write that fails or takes
 /// nothing, and then a front of the bytes is written.
+#[tactic(auto, using(crate::proofs::OnIncoming::SendLemmas::appends_more, crate::proofs::OnIncoming::SendLemmas::to_end_length, crate::proofs::OnIncoming::SendLemmas::counts_nothing))]
 pub fn send<W: Write>(writer: &mut Counted<W>, bytes: &[u8]) -> bool
     ensures whole { OnTrue result
         (Appends (W.contents writer.old.inner) (W.contents writer.new.inner) bytes.now) }

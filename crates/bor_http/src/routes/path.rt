@@ -58,6 +58,7 @@ impl Paths {
 
     /// The path that a text is, if it is one. The text is what stands before a target's first `?`.
     /// No memory is taken.
+    #[tactic(auto, using(crate::proofs::OnRoutes::Segments::value, crate::proofs::OnRoutes::AsWritten::written))]
     pub fn find(&self, text: &str) -> Option<Path>
         // By its segments, word for word.
         ensures value { result ≡ path_of text.now }

@@ -1,11 +1,7 @@
-use Rattle.std.proofs.Common.{sym, drop, ◌+◌, length-drop, arith}
-use Rattle.bor_http.proofs.OnIncoming.HeadLemmas.{head_len-hit, head_len-miss, head_len-end, blank_len-le}
+use Rattle.std.proofs.Common.{drop, ◌+◌, length-drop, arith}
+use Rattle.bor_http.proofs.OnIncoming.HeadLemmas.{head_len-miss, blank_len-le}
 use Rattle.bor_http.proofs.incoming.head.head_end.Goals as goal
 use Rattle.bor_http.proofs.incoming.head.head_end.Goals.{then-bytes-i-eq10+else-blank-gt0, else-bytes-i-eq10}
-
-pub returns-then-blank-gt0-clause-value : goal.returns-then-blank-gt0-clause-value
-returns-then-blank-gt0-clause-value c =
-    rw (c.blank_at-blank.ensures) (sym (head_len-hit _ _ c.loop-i-test.true c.loop-i.invariant c.if-bytes-i-eq10.true (omega (arith, c.blank_at-blank.ensures))))
 
 pub loop-i-preserved : goal.loop-i-preserved
 loop-i-preserved c =
@@ -13,9 +9,6 @@ loop-i-preserved c =
       | then-bytes-i-eq10+else-blank-gt0 w ↦ head_len-miss _ _ c.loop-i-test.true c.loop-i.invariant (λ _. omega arith)
       | else-bytes-i-eq10 w ↦ head_len-miss _ _ c.loop-i-test.true c.loop-i.invariant (λ h. absurd (w.if-bytes-i-eq10.false h))
     ]
-
-pub returns-clause-value : goal.returns-clause-value
-returns-clause-value c = sym (head_len-end _ _ c.loop-i-test.false c.loop-i.invariant)
 
 pub returns-then-blank-gt0-clause-within : goal.returns-then-blank-gt0-clause-within
 returns-then-blank-gt0-clause-within c =

@@ -1,9 +1,8 @@
-use Rattle.std.proofs.Common.{◌≡◌, ◌<◌, ◌∙◌, ◌==◌, ℕ, [], false, length, ap, refl, arith, length-append}
+use Rattle.std.proofs.Common.{◌∙◌, [], ap, length, refl, arith, length-append}
 use Rattle.std.proofs.KnownBytes.{Consumes-nil}
+use Rattle.std.proofs.lemmas.Bool.{ne_eqb}
 use Rattle.std.proofs.lemmas.Result.{err_from_is_err_and}
-use Rattle.std.proofs.lemmas.Bool.Decides.{nat_tests}
-use Rattle.bor_http.specs.Incoming.Progress.{needs}
-use Rattle.bor_http.proofs.OnIncoming.Gathered.{come_more, not_reached, taken_more, unread_more, whole_says}
+use Rattle.bor_http.proofs.OnIncoming.Gathered.{come_more, taken_more, unread_more, whole_says}
 use Rattle.bor_http.proofs.OnIncoming.ProgressLemmas.{nothing_is_partial, progress_kept}
 use Rattle.bor_http.proofs.incoming.request.read_request.Goals as goal
 
@@ -20,32 +19,24 @@ read-init g c = rw c.new-received.ensures.items (record {
 
 pub returns-in_err-read_more-clause-taken : goal.returns-in_err-read_more-clause-taken
 returns-in_err-read_more-clause-taken g c =
-    let less : length c.read.received.items < needs c.read.progress =
-    not_reached _ _ c.len.result c.is_whole.result c.is_whole.ensures c.read-test.true (omega (arith, c.len.ensures)) in
-    taken_more _ _ _ c.read.received.items _ c.read.progress c.wanted-wanted.result c.read.invariant.consumed c.read.invariant.known less (omega (arith, c.wanted-wanted.ensures, c.len-in-read.ensures)) _
-    c.in_err-read_more.ensures.piece
+    taken_more _ _ _ c.read.received.items _ c.read.progress c.wanted-wanted.result c.len.result c.is_whole.result c.read.invariant.consumed c.read.invariant.known
+    c.is_whole.ensures c.read-test.true (omega (arith, c.len.ensures)) (omega (arith, c.wanted-wanted.ensures, c.len-in-read.ensures)) _ c.in_err-read_more.ensures.piece
 
 pub returns-in_err-read_more-clause-fault : goal.returns-in_err-read_more-clause-fault
 returns-in_err-read_more-clause-fault g c =
-    let less : length c.read.received.items < needs c.read.progress =
-    not_reached _ _ c.len.result c.is_whole.result c.is_whole.ensures c.read-test.true (omega (arith, c.len.ensures)) in
     let p = err_from_is_err_and c.from_residual.result c.from_residual.ensures.1 in
-    rw (p.1, p.2) (unread_more _ _ _ c.read.received.items _ c.read.progress c.wanted-wanted.result c.read.invariant.consumed c.read.invariant.known less (omega (arith, c.wanted-wanted.ensures, c.len-in-read.ensures))
-    c.in_err-read_more.field-0.0 c.read.invariant.whole.1 c.in_err-read_more.ensures.piece)
+    rw (p.1, p.2) (unread_more _ _ _ c.read.received.items _ c.read.progress c.wanted-wanted.result c.len.result c.is_whole.result c.read.invariant.consumed c.read.invariant.known
+    c.is_whole.ensures c.read-test.true (omega (arith, c.len.ensures)) (omega (arith, c.wanted-wanted.ensures, c.len-in-read.ensures)) c.in_err-read_more.field-0.0 c.read.invariant.whole.1 c.in_err-read_more.ensures.piece)
 
 pub returns-then-branch-eq0-clause-bytes : goal.returns-then-branch-eq0-clause-bytes
 returns-then-branch-eq0-clause-bytes g c =
-    let less : length c.read.received.items < needs c.read.progress =
-    not_reached _ _ c.len.result c.is_whole.result c.is_whole.ensures c.read-test.true (omega (arith, c.len.ensures)) in
-    come_more _ _ _ c.read.received.items _ c.read.progress c.wanted-wanted.result c.read.invariant.consumed c.read.invariant.known less (omega (arith, c.wanted-wanted.ensures, c.len-in-read.ensures)) _
-    c.in_ok-read_more.ensures.piece
+    come_more _ _ _ c.read.received.items _ c.read.progress c.wanted-wanted.result c.len.result c.is_whole.result c.read.invariant.consumed c.read.invariant.known
+    c.is_whole.ensures c.read-test.true (omega (arith, c.len.ensures)) (omega (arith, c.wanted-wanted.ensures, c.len-in-read.ensures)) _ c.in_ok-read_more.ensures.piece
 
 pub returns-then-branch-eq0-clause-taken : goal.returns-then-branch-eq0-clause-taken
 returns-then-branch-eq0-clause-taken g c =
-    let less : length c.read.received.items < needs c.read.progress =
-    not_reached _ _ c.len.result c.is_whole.result c.is_whole.ensures c.read-test.true (omega (arith, c.len.ensures)) in
-    taken_more _ _ _ c.read.received.items _ c.read.progress c.wanted-wanted.result c.read.invariant.consumed c.read.invariant.known less (omega (arith, c.wanted-wanted.ensures, c.len-in-read.ensures)) _
-    c.in_ok-read_more.ensures.piece
+    taken_more _ _ _ c.read.received.items _ c.read.progress c.wanted-wanted.result c.len.result c.is_whole.result c.read.invariant.consumed c.read.invariant.known
+    c.is_whole.ensures c.read-test.true (omega (arith, c.len.ensures)) (omega (arith, c.wanted-wanted.ensures, c.len-in-read.ensures)) _ c.in_ok-read_more.ensures.piece
 
 pub after-requires : goal.after-requires
 after-requires g c =
@@ -54,33 +45,27 @@ after-requires g c =
 
 pub returns-in_err-progress-clause-taken : goal.returns-in_err-progress-clause-taken
 returns-in_err-progress-clause-taken g c =
-    let less : length c.read.received.items < needs c.read.progress =
-    not_reached _ _ c.len.result c.is_whole.result c.is_whole.ensures c.read-test.true (omega (arith, c.len.ensures)) in
-    taken_more _ _ _ c.read.received.items _ c.read.progress c.wanted-wanted.result c.read.invariant.consumed c.read.invariant.known less (omega (arith, c.wanted-wanted.ensures, c.len-in-read.ensures)) _
-    c.in_ok-read_more.ensures.piece
+    taken_more _ _ _ c.read.received.items _ c.read.progress c.wanted-wanted.result c.len.result c.is_whole.result c.read.invariant.consumed c.read.invariant.known
+    c.is_whole.ensures c.read-test.true (omega (arith, c.len.ensures)) (omega (arith, c.wanted-wanted.ensures, c.len-in-read.ensures)) _ c.in_ok-read_more.ensures.piece
 
 pub read-smaller : goal.read-smaller
 read-smaller g c =
-    let less : length c.read.received.items < needs c.read.progress =
-    not_reached _ _ c.len.result c.is_whole.result c.is_whole.ensures c.read-test.true (omega (arith, c.len.ensures)) in
     let piece = c.in_ok-read_more.ensures.piece in
-    let come = come_more _ _ _ c.read.received.items _ c.read.progress c.wanted-wanted.result c.read.invariant.consumed c.read.invariant.known less (omega (arith, c.wanted-wanted.ensures, c.len-in-read.ensures)) _ piece in
+    let come = come_more _ _ _ c.read.received.items _ c.read.progress c.wanted-wanted.result c.len.result c.is_whole.result c.read.invariant.consumed c.read.invariant.known
+    c.is_whole.ensures c.read-test.true (omega (arith, c.len.ensures)) (omega (arith, c.wanted-wanted.ensures, c.len-in-read.ensures)) _ piece in
     omega (arith, come.0, length-append c.read.received.items piece.bytes, ap length piece.came.0, piece.came.1, c.if-branch-eq0.false)
 
 pub read-preserved : goal.read-preserved
 read-preserved g c =
-    let less : length c.read.received.items < needs c.read.progress =
-    not_reached _ _ c.len.result c.is_whole.result c.is_whole.ensures c.read-test.true (omega (arith, c.len.ensures)) in
-    let come = come_more _ _ _ c.read.received.items _ c.read.progress c.wanted-wanted.result c.read.invariant.consumed c.read.invariant.known less (omega (arith, c.wanted-wanted.ensures, c.len-in-read.ensures)) _
-    c.in_ok-read_more.ensures.piece in
-    let gives : (n : ℕ) → (n ≡ 0 → ⊥) → (n == 0) ≡ false = λ n some. grind (arith, nat_tests) in
+    let come = come_more _ _ _ c.read.received.items _ c.read.progress c.wanted-wanted.result c.len.result c.is_whole.result c.read.invariant.consumed c.read.invariant.known
+    c.is_whole.ensures c.read-test.true (omega (arith, c.len.ensures)) (omega (arith, c.wanted-wanted.ensures, c.len-in-read.ensures)) _ c.in_ok-read_more.ensures.piece in
     record {
       consumed = come.1;
       known = rw c.deref.ensures.value at c.in_ok-progress.ensures.known;
       whole = rw c.deref.ensures.value at c.in_ok-progress.ensures.whole;
       fits = come.0;
       faults = c.in_ok-read_more.ensures.faults ∙ c.read.invariant.faults;
-      on = λ was. c.in_ok-read_more.ensures.over ∙ gives c.in_ok-read_more.field-0 c.if-branch-eq0.false;
+      on = λ was. c.in_ok-read_more.ensures.over ∙ ne_eqb c.in_ok-read_more.field-0 0 c.if-branch-eq0.false;
       late = λ was. c.in_ok-read_more.ensures.late (c.read.invariant.on was) ∙ c.read.invariant.late was;
     }
 

@@ -1,5 +1,4 @@
-use Rattle.bor_http.specs.declared.incoming.progress.Progress.TheVariants.{Headed, Refused}
-use Rattle.bor_http.proofs.OnIncoming.ProgressLemmas.{known_all, searched_of_all, whole_all, whole_once}
+use Rattle.bor_http.proofs.OnIncoming.ProgressLemmas.{known_all, searched_of_all, whole_all}
 use Rattle.bor_http.proofs.incoming.progress.Progress.after.Goals as goal
 
 pub returns-in-Searched-clause-known : goal.returns-in-Searched-clause-known
@@ -10,9 +9,3 @@ returns-in-Searched-clause-whole c =
     let bytes = c.args.bytes.now in
     whole_all bytes c.search.result (known_all bytes c.min.result c.search.result c.min.ensures c.search.ensures.known c.search.ensures.searched)
     (searched_of_all bytes c.min.result c.search.result c.min.ensures c.search.ensures.known c.search.ensures.searched)
-
-pub returns-in-Refused-clause-whole : goal.returns-in-Refused-clause-whole
-returns-in-Refused-clause-whole c = whole_once c.args.bytes.now (Refused c.in-Refused.why) (rw c.in-Refused.is at c.requires) tt
-
-pub returns-in-Headed-clause-whole : goal.returns-in-Headed-clause-whole
-returns-in-Headed-clause-whole c = whole_once c.args.bytes.now (Headed c.in-Headed.head) (rw c.in-Headed.is at c.requires) tt
