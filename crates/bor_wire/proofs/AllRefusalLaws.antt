@@ -120,9 +120,8 @@ withdrawal_fits s (Some f) = by_tests f.withdrawn (int_le f.due s.day) (has_succ
         Fits (line (not withdrawn && published) refuse.Published ++ (line (not withdrawn && stood) refuse.HasSuccessor ++ []))
         (told tell.Withdrawn of_withdrawal (if withdrawn then Ok (line_of s.day f) else (if published then Err withdraws.Published else (if stood then Err withdraws.HasSuccessor else Ok (line_of s.day (as_withdrawn f))))))
     by_tests true published stood = below _ (omega arith)
-    by_tests false true stood = refl
-    by_tests false false true = refl
     by_tests false false false = below _ (omega arith)
+    by_tests withdrawn published stood = refl
 
 file_fits : (at : Option AcceptedFiling) → Fits (line (is_none at) refuse.NoSuchFiling) (file_answer at)
 file_fits None = refl
@@ -139,10 +138,7 @@ evidence_fits seen entity day false = refl
 agent_fits : (s : Sight) (request : AgentRequest) → Fits (lines_of_agent s request) (agent_answer s request)
 agent_fits s (ask.Lodge key due file) = lodging_fits s key due file (filing_keyed key s.own)
 agent_fits s (ask.Withdraw key) = withdrawal_fits s (filing_keyed key s.own)
-agent_fits s ask.Filings = below _ (omega arith)
 agent_fits s (ask.File key) = file_fits (filing_keyed key s.own)
-agent_fits s ask.Published = below _ (omega arith)
-agent_fits s (ask.Snapshot agent declaration date) = below _ (omega arith)
 agent_fits s (ask.Chains entity date) =
     let day : ℤ = unwrap_or date s.day in
     let shown : Shown = shown_of day s.seen in
@@ -151,6 +147,7 @@ agent_fits s (ask.Evidence entity date) =
     let day : ℤ = unwrap_or date s.day in
     evidence_fits s.seen entity day (is_entity_info (info_of (shown_of day s.seen) entity))
 agent_fits s (ask.Entities identifier date) = λ reply told. subst (λ x. desk_status x < 400) (sym told.2) (omega arith)
+agent_fits s request = below _ (omega arith)
 
 -- ---- the registrar
 
@@ -187,11 +184,9 @@ registrar_fits r (office.Renew name token) = named_fits r name token (is_enrolle
 registrar_fits r office.Register = below _ (omega arith)
 
 caller_fits : (r : Register) (caller : Option Caller) (request : Request) → Fits (register_refusals r caller request) (step r caller request).answer
-caller_fits r None request = refl
 caller_fits r (Some Registrar) (of.Registrar request) = registrar_fits r request
-caller_fits r (Some Registrar) (of.Agent request) = refl
 caller_fits r (Some (Agent name)) (of.Agent request) = agent_fits (sight_of name r) request
-caller_fits r (Some (Agent name)) (of.Registrar request) = refl
+caller_fits r caller request = refl
 
 -- ---- what is said
 

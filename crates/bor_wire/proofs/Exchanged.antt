@@ -9,7 +9,7 @@ use Rattle.bor_http.specs.declared.incoming.fault.Refusal.{Refusal}
 use Rattle.bor_http.specs.Incoming.Reading.{SaysAll}
 use Rattle.bor_wire.specs.Spelling.Spell.{Spelled, Spells}
 use Rattle.bor_wire.specs.declared.outcome.Outcome.{Outcome}
-use Rattle.bor_wire.specs.declared.outcome.Outcome.TheVariants.{Replied, ReadFailed, WriteFailed}
+use Rattle.bor_wire.specs.declared.outcome.Outcome.TheVariants.{ReadFailed}
 use Rattle.bor_wire.specs.Sent.{Sent, Full, Unavailable, IfFull, status_sent}
 use Rattle.bor_wire.specs.Inputs.{after}
 use Rattle.bor_wire.specs.Answering.{AnswersOne, GoesOutFor, Responds, RespondsIfRead}
@@ -141,6 +141,5 @@ unread_answered meaning keep (Some input) = (input, refl, unasked meaning keep i
 
 pub by_outcome : {K W : Type 0} (meaning : Meaning K Register W StoreFault) (old new : K) (o : Outcome) (known held holds : Option (List ℕ)) (out : Sent)
     → RespondsIfRead meaning old new known (Some out) → IsWritten o out held holds → AnswersOne meaning old new o known held holds
-by_outcome meaning old new (Replied status) known held holds out h w = record { input = h.0; reply = out; all = h.1; responds = h.2; written = w }
 by_outcome meaning old new ReadFailed known held holds out h w = absurd w
-by_outcome meaning old new (WriteFailed status) known held holds out h w = record { input = h.0; reply = out; all = h.1; responds = h.2; written = w }
+by_outcome meaning old new outcome known held holds out h w = record { input = h.0; reply = out; all = h.1; responds = h.2; written = w }

@@ -1,9 +1,8 @@
 -- The two sentences follow from what is said of runs: a new register is legal, and its agents have no filings.
-use Rattle.std.proofs.Common.{◌≡◌, ℕ, ℤ, List, [], ◌∷◌, Bool, true, false, Option, Some, None, Ok, Err, refl, sym, ap, ◌∙◌}
+use Rattle.std.proofs.Common.{◌≡◌, ℕ, ℤ, List, [], ◌∷◌, Option, Some, Ok, Err, refl, sym, ap, ◌∙◌, arith}
 use Rattle.std.specs.Prelude.{if◌then◌else◌}
-use Rattle.bor_terms.specs.Texts.{is_same}
 use Rattle.bor_register.specs.declared.caller.Caller.{Caller}
-use Rattle.bor_register.specs.declared.caller.Caller.TheVariants.{Registrar, Agent}
+use Rattle.bor_register.specs.declared.caller.Caller.TheVariants.{Agent}
 use Rattle.bor_register.specs.Register.{Register, caller_of, empty_register}
 use Rattle.bor_desk.specs.Operations.Solo.{published_beside}
 use Rattle.bor_desk.specs.declared.request.Request.{Request}
@@ -28,45 +27,31 @@ with_one name r caller request reply rest =
 
 occasions_by : (name : List ℕ) (r : Register) (caller : Option Caller) (request : Request) (reply : List ℕ) (rest : List OwnExchange)
     → without_replies (with_one name r caller request reply rest) ≡ occasion_then name r (request_by name caller request) (without_replies rest)
-occasions_by name r None request reply rest = refl
-occasions_by name r (Some Registrar) request reply rest = refl
-occasions_by name r (Some (Agent other)) request reply rest = by_test (is_same other name)
-  where
-    by_test : (b : Bool) → without_replies (if b then record { day = r.day; others = published_beside name r.day r.members; request = request; reply = reply } ∷ rest else rest)
-        ≡ occasion_then name r (if b then Some request else None) (without_replies rest)
-    by_test true = refl
-    by_test false = refl
+occasions_by name r (Some (Agent other)) request reply rest = grind arith
+occasions_by name r caller request reply rest = refl
 
 replies_by : (name : List ℕ) (r : Register) (caller : Option Caller) (request : Request) (reply : List ℕ) (rest : List OwnExchange)
     → replies_in (with_one name r caller request reply rest) ≡ told_then (request_by name caller request) reply (replies_in rest)
-replies_by name r None request reply rest = refl
-replies_by name r (Some Registrar) request reply rest = refl
-replies_by name r (Some (Agent other)) request reply rest = by_test (is_same other name)
-  where
-    by_test : (b : Bool) → replies_in (if b then record { day = r.day; others = published_beside name r.day r.members; request = request; reply = reply } ∷ rest else rest)
-        ≡ told_then (if b then Some request else None) reply (replies_in rest)
-    by_test true = refl
-    by_test false = refl
+replies_by name r (Some (Agent other)) request reply rest = grind arith
+replies_by name r caller request reply rest = refl
 
 own_history : (name : List ℕ) (r : Register) (ss : List Spelled) (bs : List (List ℕ)) → AreReplies r ss bs → without_replies (own_exchanges name r ss bs) ≡ history_in name r ss
 own_history name r [] [] h = refl
-own_history name r [] (b ∷ bs) h = elim h [ ]
-own_history name r (s ∷ ss) [] h = elim h [ ]
 own_history name r (Err why ∷ ss) (b ∷ bs) h = own_history name r ss bs h.1
 own_history name r (Ok asked ∷ ss) (b ∷ bs) h =
     let next : Register = after r (Ok asked) in
     let caller : Option Caller = caller_of asked.token r in
     occasions_by name r caller asked.request b (own_exchanges name next ss bs) ∙ ap (occasion_then name r (request_by name caller asked.request)) (own_history name next ss bs h.1)
+own_history name r ss bs h = absurd h
 
 own_received : (name : List ℕ) (r : Register) (ss : List Spelled) (bs : List (List ℕ)) → AreReplies r ss bs → replies_in (own_exchanges name r ss bs) ≡ received name r ss bs
 own_received name r [] [] h = refl
-own_received name r [] (b ∷ bs) h = elim h [ ]
-own_received name r (s ∷ ss) [] h = elim h [ ]
 own_received name r (Err why ∷ ss) (b ∷ bs) h = own_received name r ss bs h.1
 own_received name r (Ok asked ∷ ss) (b ∷ bs) h =
     let next : Register = after r (Ok asked) in
     let caller : Option Caller = caller_of asked.token r in
     replies_by name r caller asked.request b (own_exchanges name next ss bs) ∙ ap (told_then (request_by name caller asked.request) b) (own_received name next ss bs h.1)
+own_received name r ss bs h = absurd h
 
 -- ---- the sentences
 

@@ -3,7 +3,7 @@ use Rattle.std.proofs.Common.{◌≡◌, ℕ, ◌+◌, List, [], ◌∷◌, ◌+
 use Rattle.std.specs.Prelude.{if◌then◌else◌, is_some, ⊤}
 use Rattle.std.specs.List.{flat_map}
 use Rattle.std.specs.Fmt.{decimal, digits}
-use Rattle.std.proofs.lemmas.Bool.{and_parts}
+use Rattle.std.proofs.lemmas.Bool.{and_parts, true≢false}
 use Rattle.json.specs.Print.{escape_byte}
 use Rattle.bor_terms.specs.Day.{day_text, year_at, month_at}
 use Rattle.bor_terms.specs.Texts.{is_same}
@@ -29,7 +29,7 @@ use Rattle.bor_desk.specs.declared.request.RegistrarRequest.TheVariants as offic
 use Rattle.bor_desk.specs.declared.reply.DeskReply.{DeskReply}
 use Rattle.bor_desk.specs.declared.reply.DeskReply.TheVariants as tell
 use Rattle.bor_desk.specs.Refusals.{refusal_name}
-use Rattle.bor_desk.specs.Step.{Answer, exactly, report, evidence, entities}
+use Rattle.bor_desk.specs.Step.{Answer, exactly}
 use Rattle.bor_desk.specs.Outcomes.{IsTold}
 use Rattle.bor_desk.specs.Runs.{Asked, Occasion, exchange, history, solo}
 use Rattle.bor_http.specs.declared.incoming.fault.Refusal.TheVariants.{NoPath}
@@ -84,9 +84,7 @@ inputs =
 -- the bytes of an answer that is exactly a reply; no report, evidence or identifier is asked for here
 abbrev bytes_told : Answer → List ℕ
 bytes_told (exactly reply) = bytes_of (answered reply)
-bytes_told (report entity day shown) = []
-bytes_told (evidence entity day seen) = []
-bytes_told (entities identifier day seen) = []
+bytes_told answer = []
 
 -- what a run sends where each request is replied to like this, by the requests before it and the register
 abbrev pub sent_by : (List Asked → Register → Asked → List ℕ) → List Asked → Register → List Spelled → List (List ℕ)
@@ -158,17 +156,12 @@ asked_by_cedar = refl
 abbrev alone : List ℕ → List (List ℕ)
 alone name = map bytes_told (solo name [] (history name start (asked_in inputs)))
 
-alder_alone : alone (codes "alder") ≡ to (codes "alder")
-unfolding replier
-alder_alone = refl
+abbrev agents : List (List ℕ)
+agents = codes "alder" ∷ codes "birch" ∷ codes "cedar" ∷ []
 
-birch_alone : alone (codes "birch") ≡ to (codes "birch")
+each_alone : map alone agents ≡ map to agents
 unfolding replier
-birch_alone = refl
-
-cedar_alone : alone (codes "cedar") ≡ to (codes "cedar")
-unfolding replier
-cedar_alone = refl
+each_alone = refl
 
 -- an agent's own exchanges: the same replies, and how many filings of others were published at each
 own_of_alder : replies_in (own_exchanges (codes "alder") start inputs sent) ≡ to (codes "alder")
@@ -260,9 +253,7 @@ own_token = refl
 
 abbrev is_exact : Answer → Bool
 is_exact (exactly reply) = true
-is_exact (report entity day shown) = false
-is_exact (evidence entity day seen) = false
-is_exact (entities identifier day seen) = false
+is_exact answer = false
 
 -- whether no answer of the run is a report
 abbrev pub has_no_report : Register → List Spelled → Bool
@@ -275,9 +266,7 @@ IsReplyBy answer = (said : Said) × ((reply : DeskReply) × IsTold answer reply 
 
 by_answer : (answer : Answer) → is_exact answer ≡ true → IsReplyBy answer
 by_answer (exactly reply) h = (answered reply, (reply, refl, refl), refl)
-by_answer (report entity day shown) h = absurd cc
-by_answer (evidence entity day seen) h = absurd cc
-by_answer (entities identifier day seen) h = absurd cc
+by_answer answer h = absurd cc
 
 pub own_replies : (earlier : List Asked) (r : Register) (ss : List Spelled) → has_no_report r ss ≡ true → AreReplies r ss (sent_by own earlier r ss)
 own_replies earlier r [] h = tt
@@ -318,15 +307,12 @@ no_filings = record { numbered = tt; few = omega arith; keyed = tt; read = tt }
 legal : IsLegal start
 legal = record { names = ((refl, tt), (tt, tt)); tokens = (refl, (refl, tt)); registrar = refl; own = (no_filings, (no_filings, tt)) }
 
-true_isnt_false : true ≡ false → ⊥
-true_isnt_false e = absurd cc
-
 -- the law is false of replies by which alder receives different bytes in two runs with one history of alder
 refuted : (reply : List Asked → Register → Asked → List ℕ) (one other : List Spelled) → history (codes "alder") start (asked_in one) ≡ history (codes "alder") start (asked_in other)
     → are_same (alder_receives reply one) (alder_receives reply other) ≡ false → are_same (alder_receives reply other) (alder_receives reply other) ≡ true → SameBytesOf (IsSentBy reply) → ⊥
 refuted reply one other past differ same law =
     let e = law (codes "alder") start start one other (sent_by reply [] start one) (sent_by reply [] start other) legal legal refl refl refl past in
-    true_isnt_false (sym same ∙ ap (λ xs. are_same xs (alder_receives reply other)) (sym e) ∙ differ)
+    true≢false (sym same ∙ ap (λ xs. are_same xs (alder_receives reply other)) (sym e) ∙ differ)
 
 -- birch lodges a draft
 abbrev drafted : List Spelled → List Spelled

@@ -21,11 +21,10 @@ one_bytes answer x y p q = p.2 ∙ ap (λ reply. bytes_of (answered reply)) (one
 -- the replies to requests are the bytes of the answers to them
 answers_told : (r : Register) (ss : List Spelled) (bs : List (List ℕ)) → AreReplies r ss bs → AllZip AreBytesOf (answers r (asked_in ss)) (replies_to_requests ss bs)
 answers_told r [] [] h = tt
-answers_told r [] (b ∷ bs) h = elim h [ ]
-answers_told r (s ∷ ss) [] h = elim h [ ]
 answers_told r (Err why ∷ ss) (b ∷ bs) h = answers_told r ss bs h.1
 answers_told r (Ok asked ∷ ss) (b ∷ bs) h =
     ((h.0.1.0, h.0.1.1, h.0.2 ∙ ap bytes_of h.0.1.2), answers_told (exchange r asked).register ss bs h.1)
+answers_told r ss bs h = absurd h
 
 both_then : (asked : Option Request) (answer : Answer) (b : List ℕ) (told : List Answer) (bs : List (List ℕ)) → AreBytesOf answer b → AllZip AreBytesOf told bs
     → AllZip AreBytesOf (told_then asked answer told) (told_then asked b bs)
@@ -36,11 +35,10 @@ both_told : (name : List ℕ) (r : Register) (run : List Asked) (told : List Ans
     → AllZip AreBytesOf (told_to name r run told) (told_to name r run bs)
 both_told name r [] told bs h = tt
 both_told name r (a ∷ run) [] [] h = tt
-both_told name r (a ∷ run) [] (b ∷ bs) h = elim h [ ]
-both_told name r (a ∷ run) (x ∷ told) [] h = elim h [ ]
 both_told name r (a ∷ run) (x ∷ told) (b ∷ bs) h =
     both_then (agent_request name r a) x b (told_to name (exchange r a).register run told) (told_to name (exchange r a).register run bs) h.0
     (both_told name (exchange r a).register run told bs h.1)
+both_told name r run told bs h = absurd h
 
 pub alone : (name : List ℕ) (r : Register) (ss : List Spelled) (bs : List (List ℕ)) → IsLegal r → AreReplies r ss bs → IsAlone name r ss bs
 alone name r ss bs legal h =

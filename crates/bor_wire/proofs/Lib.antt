@@ -7,7 +7,6 @@ pub mod RefusalLaws
 pub mod AllRefusalLaws
 pub mod RepeatLaws
 pub mod ReportBytes
-pub mod EvidenceBytes
 pub mod HistoryLaws
 pub mod NobodyLaws
 pub mod SequenceLaws

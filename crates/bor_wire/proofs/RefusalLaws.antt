@@ -8,7 +8,7 @@ use Rattle.bor_desk.specs.declared.request.Request.TheVariants as of
 use Rattle.bor_desk.specs.declared.request.AgentRequest.TheVariants as ask
 use Rattle.bor_desk.specs.declared.reply.DeskReply.{DeskReply}
 use Rattle.bor_desk.specs.declared.reply.DeskReply.TheVariants as tell
-use Rattle.bor_desk.specs.Step.{Answer, exactly, report, evidence, entities, step}
+use Rattle.bor_desk.specs.Step.{Answer, exactly, step}
 use Rattle.bor_desk.specs.Outcomes.{IsTold, IsOrderedFor}
 use Rattle.bor_desk.specs.Laws.{may_tell_a_change}
 use Rattle.bor_desk.proofs.Unchanged.{refusal_leaves, reads}
@@ -29,25 +29,14 @@ lodged_below false h = refl
 refusal_tells_none : (reply : DeskReply) → 400 ≤ desk_status reply → may_tell_a_change (exactly reply) ≡ false
 refusal_tells_none (tell.Lodged lodged) h = lodged_below lodged.fresh h
 refusal_tells_none (tell.Withdrawn line) h = absurd (omega arith)
-refusal_tells_none (tell.Filings lines) h = refl
-refusal_tells_none (tell.File bytes) h = refl
-refusal_tells_none (tell.Published outwards) h = refl
-refusal_tells_none (tell.Snapshot date records) h = refl
-refusal_tells_none (tell.Chains entity date persons) h = refl
-refusal_tells_none (tell.Evidence entity date told) h = refl
-refusal_tells_none (tell.Entities identifier date told) h = refl
 refusal_tells_none (tell.Day day) h = absurd (omega arith)
 refusal_tells_none (tell.Enrolled name) h = absurd (omega arith)
 refusal_tells_none (tell.Renewed name) h = absurd (omega arith)
-refusal_tells_none (tell.Register agents day) h = refl
-refusal_tells_none (tell.Refused why) h = refl
-refusal_tells_none (tell.Failed fault) h = refl
+refusal_tells_none reply h = refl
 
 refused_answer : (answer : Answer) (reply : DeskReply) → IsTold answer reply → 400 ≤ desk_status reply → may_tell_a_change answer ≡ false
 refused_answer (exactly wanted) reply told h = refusal_tells_none wanted (subst (λ x. 400 ≤ desk_status x) told h)
-refused_answer (report entity day shown) reply told h = refl
-refused_answer (evidence entity day seen) reply told h = refl
-refused_answer (entities identifier day seen) reply told h = refl
+refused_answer answer reply told h = refl
 
 -- also where a snapshot's reply isn't known to be told
 pub refused_leaves : (r : Register) (caller : Option Caller) (request : Request) (reply : DeskReply) → (IsOrderedFor request r → IsTold (step r caller request).answer reply) → 400 ≤ desk_status reply
@@ -90,7 +79,6 @@ told_status said bytes status is has =
 
 pub refusals_leave : (r : Register) (ss : List Spelled) (bs : List (List ℕ)) → AreReplies r ss bs → RefusalsLeave r ss bs
 refusals_leave r [] [] h = tt
-refusals_leave r [] (b ∷ bs) h = elim h [ ]
-refusals_leave r (s ∷ ss) [] h = elim h [ ]
 refusals_leave r (s ∷ ss) (b ∷ bs) h =
     (λ status has least. said_leaves r s h.0.0 h.0.1 (subst (λ n. 400 ≤ n) (sym (told_status h.0.0 b status h.0.2 has)) least), refusals_leave (after r s) ss bs h.1)
+refusals_leave r ss bs h = absurd h

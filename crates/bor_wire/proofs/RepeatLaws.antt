@@ -2,6 +2,7 @@
 use Rattle.std.proofs.Common.{◌≡◌, ◌≢◌, ◌⊎◌, inl, inr, ℕ, ℤ, List, [], ◌∷◌, ◌++◌, Bool, true, false, ◌==◌, ◌&&◌, Option, Some, None, Result, Ok, Err, refl, sym, ap, subst, ◌∙◌, arith}
 use Rattle.std.specs.Prelude.{if◌then◌else◌, int_le}
 use Rattle.std.specs.Ordering.{int_eq}
+use Rattle.std.proofs.lemmas.Bool.{and_parts, cond-false, false_from_ne_true}
 use Rattle.std.proofs.lemmas.Bool.Decides.{Decides-int_eq}
 use Rattle.bor_terms.specs.Texts.{is_same}
 use Rattle.bor_terms.proofs.Texts.{same_is, same_refl, is_same-of}
@@ -101,10 +102,8 @@ keyed-withdrawal s number due key file None k = k
 keyed-withdrawal s number due key file (Some f) k = by_tests f.withdrawn (int_le f.due s.day) (has_successor f.number s.own)
   where
     by_tests : (withdrawn published stood : Bool) → Keyed number due key file (if withdrawn then s.own else (if published then s.own else (if stood then s.own else with_withdrawn f.number s.own)))
-    by_tests true published stood = k
-    by_tests false true stood = k
-    by_tests false false true = k
     by_tests false false false = keyed-withdrawn f.number number due key file s.own k.filing k.found k.is
+    by_tests withdrawn published stood = k
 
 keyed-after : (s : Sight) (request : AgentRequest) (number : ℕ) (due : ℤ) (key file : List ℕ) → Keyed number due key file s.own → Keyed number due key file (own_after s request)
 keyed-after s (ask.Lodge other date bytes) number due key file k = keyed-lodged s number due key file other date bytes (filing_keyed other s.own) k
@@ -159,8 +158,7 @@ own_told s key due file told (Some f) found h = by_tests (int_eq f.due due) (is_
         let is : told_of false s.day f ≡ told = cc in
         let due_is : f.due ≡ due = (Decides-int_eq f.due due).0 day in
         (record { filing = f; found = found; is = record { number_is = ap (λ (l : Lodged). l.number) is; due_is = due_is; file_is = same_is f.bytes file bytes } }, sym (ap (λ (l : Lodged). l.due) is) ∙ due_is)
-    by_tests true false day bytes h = absurd cc
-    by_tests false c day bytes h = absurd cc
+    by_tests b c day bytes h = absurd cc
 own_told s key due file told None found h = by_addition (addition s key due file) refl h
   where
     by_addition : (added : Result AcceptedFiling LodgeFault) → addition s key due file ≡ added → told_added s.day added ≡ Ok told → Keyed told.number due key file (own_added s.own added) × (told.due ≡ due)
@@ -181,16 +179,8 @@ own_told s key due file told None found h = by_addition (addition s key due file
 -- an answer that tells a lodging is no refusal
 told_ok : (o : Result Lodged LodgeFault) (lodged : Lodged) → IsTold (told tell.Lodged of_lodging o) (tell.Lodged lodged) → o ≡ Ok lodged
 told_ok (Ok l) lodged h = let same : l ≡ lodged = cc in ap Ok same
-told_ok (Err fault) lodged h = refused_is fault h
-  where
-    refused_is : (f : LodgeFault) → IsTold (told tell.Lodged of_lodging (Err f)) (tell.Lodged lodged) → Err f ≡ Ok lodged
-    refused_is lodges.KeyReused h = absurd cc
-    refused_is lodges.FilingsFull h = absurd cc
-    refused_is lodges.DuePast h = absurd cc
-    refused_is (lodges.Read why) h = absurd cc
-    refused_is (lodges.StatementTwice place) h = absurd cc
-    refused_is (lodges.Record place why) h = absurd cc
-    refused_is (lodges.Store why) h = absurd cc
+told_ok (Err lodges.KeyReused) lodged h = absurd cc
+told_ok (Err fault) lodged h = absurd cc
 
 -- the filing of the agent that lodged, and the due day that it is told
 record IsFiled (name : List ℕ) (due : ℤ) (key file : List ℕ) (told : Lodged) (q : Register) : Type 0 where
@@ -243,12 +233,10 @@ again_is : (day due : ℤ) (file : List ℕ) (f : AcceptedFiling) → f.due ≡ 
 again_is day due file f date bytes = rw ((Decides-int_eq f.due due).1 date, is_same-of f.bytes file bytes) refl
 
 reused_is : (day due date : ℤ) (file other : List ℕ) (f : AcceptedFiling) → f.due ≡ due → f.bytes ≡ file → (date ≢ due) ⊎ (other ≢ file) → repeated day date other f ≡ Err lodges.KeyReused
-reused_is day due date file other f due_is file_is differs = by_tests (int_eq f.due date) (is_same f.bytes other) refl refl
-  where
-    by_tests : (b c : Bool) → int_eq f.due date ≡ b → is_same f.bytes other ≡ c → (if b && c then Ok (told_of false day f) else Err lodges.KeyReused) ≡ Err lodges.KeyReused
-    by_tests true true day_is bytes = absurd (elim differs [ inl n ↦ n (sym ((Decides-int_eq f.due date).0 day_is) ∙ due_is) | inr n ↦ n (sym (same_is f.bytes other bytes) ∙ file_is) ])
-    by_tests true false day_is bytes = refl
-    by_tests false c day_is bytes = refl
+reused_is day due date file other f due_is file_is differs =
+    cond-false (int_eq f.due date && is_same f.bytes other) (Ok (told_of false day f)) (Err lodges.KeyReused) (false_from_ne_true (int_eq f.due date && is_same f.bytes other) (λ both.
+    let two = and_parts (int_eq f.due date) (is_same f.bytes other) both in
+    elim differs [ inl n ↦ n (sym ((Decides-int_eq f.due date).0 two.0) ∙ due_is) | inr n ↦ n (sym (same_is f.bytes other two.1) ∙ file_is) ]))
 
 abbrev told_again_reply : Register → AcceptedFiling → Lodged → Said
 told_again_reply q f lodged = answered (tell.Lodged (told_again q.day f lodged))

@@ -1,5 +1,5 @@
 -- Whom a report names, what evidence tells and which entities are found, from what is said.
-use Rattle.std.proofs.Common.{◌≡◌, ℕ, ℤ, List, [], ◌∷◌, Bool, true, false, Option, Some, None, Ok, Err, refl, sym, ap, subst, ◌∙◌, arith}
+use Rattle.std.proofs.Common.{◌≡◌, ℕ, ℤ, List, [], ◌∷◌, Bool, true, false, Option, Some, Ok, Err, refl, sym, ap, subst, ◌∙◌, arith}
 use Rattle.std.specs.Prelude.{if◌then◌else◌, unwrap_or}
 use Rattle.bods_read.specs.declared.details.Identifier.{Identifier}
 use Rattle.bor_records.specs.declared.row.Row.{Row}
@@ -7,7 +7,7 @@ use Rattle.bor_records.specs.declared.links.node.Node.{Node}
 use Rattle.bor_records.specs.Links.Rows.{shown_of, is_entity_info}
 use Rattle.bor_records.specs.Links.Shown.{Shown, info_of}
 use Rattle.bor_register.specs.declared.caller.Caller.{Caller}
-use Rattle.bor_register.specs.declared.caller.Caller.TheVariants.{Registrar, Agent}
+use Rattle.bor_register.specs.declared.caller.Caller.TheVariants.{Agent}
 use Rattle.bor_register.specs.Register.{Register, caller_of}
 use Rattle.bor_desk.specs.Operations.Sight.{seen_by}
 use Rattle.bor_desk.specs.declared.refusal.Refusal.TheVariants.{NoEntity}
@@ -36,9 +36,8 @@ of_seen false answer reply told status = absurd (omega (arith, ap desk_status to
 -- an agent asked what only agents may ask
 by_an_agent : (r : Register) (caller : Option Caller) (request : AgentRequest) (reply : DeskReply) → IsTold (step r caller (of.Agent request)).answer reply → desk_status reply ≡ 200
     → (name : List ℕ) × (caller ≡ Some (Agent name)) × IsTold (agent_step r name request).answer reply
-by_an_agent r None request reply told status = absurd (omega (arith, ap desk_status told, status))
-by_an_agent r (Some Registrar) request reply told status = absurd (omega (arith, ap desk_status told, status))
 by_an_agent r (Some (Agent name)) request reply told status = (name, refl, told)
+by_an_agent r caller request reply told status = absurd (omega (arith, ap desk_status told, status))
 
 caller_names : (r : Register) (token : List ℕ) (entity : Node) (date : Option ℤ) (reply : DeskReply) → IsTold (step r (caller_of token r) (of.Agent (ask.Chains entity date))).answer reply → desk_status reply ≡ 200 → NamesTheJoined r token entity date (answered reply)
 caller_names r token entity date reply told status =
@@ -82,6 +81,5 @@ exact r (Ok asked) said h = record {
 
 pub reports : (r : Register) (ss : List Spelled) (bs : List (List ℕ)) → AreReplies r ss bs → AreReports r ss bs
 reports r [] [] h = tt
-reports r [] (b ∷ bs) h = elim h [ ]
-reports r (s ∷ ss) [] h = elim h [ ]
 reports r (s ∷ ss) (b ∷ bs) h = ((h.0.0, h.0.1, exact r s h.0.0 h.0.1, h.0.2), reports (after r s) ss bs h.1)
+reports r ss bs h = absurd h

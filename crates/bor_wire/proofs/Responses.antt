@@ -14,7 +14,7 @@ use Rattle.bor_desk.specs.Laws.{is_long}
 use Rattle.bor_desk.specs.Runs.{Asked, exchange}
 use Rattle.bor_desk.proofs.Unchanged.{reads}
 use Rattle.bor_http.specs.declared.incoming.fault.Refusal.{Refusal}
-use Rattle.bor_http.specs.declared.incoming.fault.Refusal.TheVariants.{HeadTooLarge, CutShort, BadHead, BadLength, BodyTooLarge, NoPath, WrongMethod, NoToken, BadQuery}
+use Rattle.bor_http.specs.declared.incoming.fault.Refusal.TheVariants.{HeadTooLarge}
 use Rattle.bor_wire.specs.Spelling.Spell.{Spelled}
 use Rattle.bor_wire.specs.Rendering.Replies.{Said, refused, answered, bytes_of, status_of}
 use Rattle.bor_wire.specs.Rendering.Statuses.{desk_status, wire_refusal_status}
@@ -77,14 +77,7 @@ rendered_status Unavailable reply is sure = tt
 -- no refusal of bytes has status 503
 pub refusal_served : (why : Refusal) → wire_refusal_status why ≢ 503
 refusal_served HeadTooLarge = λ e. absurd (omega arith)
-refusal_served CutShort = λ e. absurd (omega arith)
-refusal_served BadHead = λ e. absurd (omega arith)
-refusal_served BadLength = λ e. absurd (omega arith)
-refusal_served BodyTooLarge = λ e. absurd (omega arith)
-refusal_served NoPath = λ e. absurd (omega arith)
-refusal_served (WrongMethod _) = λ e. absurd (omega arith)
-refusal_served NoToken = λ e. absurd (omega arith)
-refusal_served (BadQuery _) = λ e. absurd (omega arith)
+refusal_served why = λ e. absurd (omega arith)
 
 -- a keep that was asked nothing leaves what it might have left
 pub same_leaves : {K W : Type 0} (meaning : Meaning K Register W StoreFault) (keep : K) (IsMade : Register → W → Type 0) → Leaves meaning keep keep IsMade

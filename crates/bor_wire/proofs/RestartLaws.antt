@@ -32,9 +32,8 @@ use Rattle.bor_wire.proofs.SequenceLaws.{run_over}
 
 pub replies-append : (r : Register) (ss more : List Spelled) (bs told : List (List ℕ)) → AreReplies r ss bs → AreReplies (register_left r ss) more told → AreReplies r (ss ++ more) (bs ++ told)
 replies-append r [] more [] told h rest = rest
-replies-append r [] more (b ∷ bs) told h rest = elim h [ ]
-replies-append r (s ∷ ss) more [] told h rest = elim h [ ]
 replies-append r (s ∷ ss) more (b ∷ bs) told h rest = (h.0, replies-append (after r s) ss more bs told h.1 rest)
+replies-append r ss more bs told h rest = absurd h
 
 left-append : (r : Register) (ss more : List Spelled) → register_left r (ss ++ more) ≡ register_left (register_left r ss) more
 left-append r [] more = refl
@@ -60,14 +59,13 @@ own-append-one false e xs ys = refl
 own-append : (name : List ℕ) (r : Register) (ss more : List Spelled) (bs told : List (List ℕ)) → AreReplies r ss bs
     → own_exchanges name r (ss ++ more) (bs ++ told) ≡ own_exchanges name r ss bs ++ own_exchanges name (register_left r ss) more told
 own-append name r [] more [] told h = refl
-own-append name r [] more (b ∷ bs) told h = elim h [ ]
-own-append name r (s ∷ ss) more [] told h = elim h [ ]
 own-append name r (Err why ∷ ss) more (b ∷ bs) told h = own-append name r ss more bs told h.1
 own-append name r (Ok asked ∷ ss) more (b ∷ bs) told h =
     let next : Register = after r (Ok asked) in
     let one : OwnExchange = record { day = r.day; others = published_beside name r.day r.members; request = asked.request; reply = b } in
     ap (own_then name r (Ok asked) b) (own-append name next ss more bs told h.1)
     ∙ own-append-one (is_agent name (caller_of asked.token r)) one (own_exchanges name next ss bs) (own_exchanges name (register_left next ss) more told)
+own-append name r ss more bs told h = absurd h
 
 pub compose : RunsCompose
 compose = record { replies = replies-append; left = left-append; history = history-append; own = own-append }
@@ -76,9 +74,8 @@ compose = record { replies = replies-append; left = left-append; history = histo
 
 zip-append : {A B : Type 0} (R : A → B → Type 0) (xs : List A) (ys : List B) (others : List A) (more : List B) → AllZip R xs ys → AllZip R others more → AllZip R (xs ++ others) (ys ++ more)
 zip-append R [] [] others more h rest = rest
-zip-append R [] (y ∷ ys) others more h rest = elim h [ ]
-zip-append R (x ∷ xs) [] others more h rest = elim h [ ]
 zip-append R (x ∷ xs) (y ∷ ys) others more h rest = (h.0, zip-append R xs ys others more h.1 rest)
+zip-append R xs ys others more h rest = absurd h
 
 pub exchanges_compose : {K : Type 0} (shows : K → Register → Type 0) → ExchangesCompose shows
 exchanges_compose {K} shows r keep next es others legal run more =

@@ -14,14 +14,13 @@ use Rattle.bor_wire.specs.Runs.{AreSpelled, register_left}
 -- where each item determines what it goes with, a list determines the list
 pub zip_once : {A B : Type 0} (R : A → B → Type 0) → ((i : A) (x y : B) → R i x → R i y → x ≡ y) → (is : List A) (xs ys : List B) → AllZip R is xs → AllZip R is ys → xs ≡ ys
 zip_once R one [] [] [] p q = refl
-zip_once R one [] [] (y ∷ ys) p q = elim q [ ]
-zip_once R one [] (x ∷ xs) ys p q = elim p [ ]
-zip_once R one (i ∷ is) [] ys p q = elim p [ ]
-zip_once R one (i ∷ is) (x ∷ xs) [] p q = elim q [ ]
 zip_once R one (i ∷ is) (x ∷ xs) (y ∷ ys) p q =
     let first : x ≡ y = one i x y p.0 q.0 in
     let others : xs ≡ ys = zip_once R one is xs ys p.1 q.1 in
     cc
+zip_once R one [] [] ys p q = absurd q
+zip_once R one (i ∷ is) (x ∷ xs) ys p q = absurd q
+zip_once R one is xs ys p q = absurd p
 
 pub spelled_once : (inputs : List (List ℕ)) (a b : List Spelled) → AreSpelled inputs a → AreSpelled inputs b → a ≡ b
 spelled_once inputs a b x y = zip_once Spells one_spelling inputs a b x y

@@ -1,8 +1,8 @@
 -- Exchanges one after the other are a run.
 use Rattle.bor_register.specs.declared.fault.StoreFault.{StoreFault}
 use Rattle.bor_records.specs.Promises.{Meaning}
-use Rattle.std.proofs.Common.{◌≡◌, ◌⊎◌, inl, inr, ℕ, List, [], ◌∷◌, Bool, true, false, refl, sym, subst}
-use Rattle.std.specs.Prelude.{if◌then◌else◌}
+use Rattle.std.proofs.Common.{◌≡◌, ◌⊎◌, inl, inr, ℕ, List, [], ◌∷◌, true, false, refl, sym, subst}
+use Rattle.std.proofs.lemmas.Bool.{cond-false, cond-true}
 use Rattle.bor_register.specs.Register.{Register}
 use Rattle.bor_desk.specs.Operations.Legality.{IsLegal}
 use Rattle.bor_wire.specs.Spelling.Spell.{Spelled, Spells}
@@ -37,18 +37,10 @@ record IsServed {K : Type 0} (shown : Register → Type 0) (r : Register) (excha
   replies : AreReplies r spelled (bytes_in (answered exchanges))
   left : shown (register_left r spelled)
 
-pub kept : {K : Type 0} (b : Bool) (e : Exchanged K) (rest : List (Exchanged K)) → b ≡ true → (if b then e ∷ rest else rest) ≡ e ∷ rest
-kept true e rest is = refl
-kept false e rest is = absurd cc
-
-pub dropped : {K : Type 0} (b : Bool) (e : Exchanged K) (rest : List (Exchanged K)) → b ≡ false → (if b then e ∷ rest else rest) ≡ rest
-dropped true e rest is = absurd cc
-dropped false e rest is = refl
-
 more : {K : Type 0} (shown : Register → Type 0) (r : Register) (e : Exchanged K) (rest : List (Exchanged K)) (s : Spelled) → is_answered e.reply ≡ true → Spells e.input s
     → IsReplyTo r s (bytes_sent e.reply) → IsServed shown (after r s) rest → IsServed shown r (e ∷ rest)
 more shown r e rest s is spells reply h =
-    let first : answered (e ∷ rest) ≡ e ∷ answered rest = kept (is_answered e.reply) e (answered rest) is in
+    let first : answered (e ∷ rest) ≡ e ∷ answered rest = cond-true (is_answered e.reply) (e ∷ answered rest) (answered rest) is in
     record {
       spelled = s ∷ h.spelled;
       spells = subst (λ es. AreSpelledBy es (s ∷ h.spelled)) (sym first) (spells, h.spells);
@@ -58,7 +50,7 @@ more shown r e rest s is spells reply h =
 
 no_more : {K : Type 0} (shown : Register → Type 0) (r : Register) (e : Exchanged K) (rest : List (Exchanged K)) → is_answered e.reply ≡ false → IsServed shown r rest → IsServed shown r (e ∷ rest)
 no_more shown r e rest is h =
-    let none : answered (e ∷ rest) ≡ answered rest = dropped (is_answered e.reply) e (answered rest) is in
+    let none : answered (e ∷ rest) ≡ answered rest = cond-false (is_answered e.reply) (e ∷ answered rest) (answered rest) is in
     record {
       spelled = h.spelled;
       spells = subst (λ es. AreSpelledBy es h.spelled) (sym none) h.spells;

@@ -1,8 +1,8 @@
 -- An agent keeps its token until it is renewed, and from then on has the new one; a renewal that was told acts once.
-use Rattle.std.proofs.Common.{◌≡◌, ℕ, ℤ, List, [], ◌∷◌, Bool, true, false, Option, Some, None, option_map, Result, Ok, Err, refl, sym, ap, subst, ◌∙◌, arith}
+use Rattle.std.proofs.Common.{◌≡◌, ℕ, ℤ, List, [], ◌∷◌, Bool, true, false, Option, Some, None, option_map, Result, Ok, Err, refl, ap, subst, ◌∙◌, arith}
 use Rattle.std.specs.Prelude.{if◌then◌else◌, int_lt, is_some}
 use Rattle.std.specs.List.{list_any}
-use Rattle.std.proofs.lemmas.Bool.{or_parts}
+use Rattle.std.proofs.lemmas.Bool.{cond_both, false_from_ne_true, or_parts}
 use Rattle.bor_terms.specs.Texts.{is_same}
 use Rattle.bor_terms.proofs.Texts.{same_is, same_refl, same_sym}
 use Rattle.bor_register.specs.declared.caller.Caller.{Caller}
@@ -50,11 +50,8 @@ caller-agent q token asking (of.Agent request) = ap (caller_by q token) (agent_w
 
 -- a token that somebody has is none of a new agent's
 not_taken : (q : Register) (token new : List ℕ) (caller : Caller) → caller_of token q ≡ Some caller → is_taken new q ≡ false → is_same new token ≡ false
-not_taken q token new caller is free = by_test (is_same new token) refl
-  where
-    by_test : (b : Bool) → is_same new token ≡ b → b ≡ false
-    by_test true same = absurd (let has = taken-caller token q ∙ ap is_some is in let other = ap (λ t. is_taken t q) (same_is new token same) in cc)
-    by_test false other = refl
+not_taken q token new caller is free = false_from_ne_true (is_same new token) (λ same.
+    let has = taken-caller token q ∙ ap is_some is in let other = ap (λ t. is_taken t q) (same_is new token same) in cc)
 
 caller-enrolled : (q : Register) (token name new : List ℕ) (caller : Caller) (b c : Bool) → is_enrolled name q.members ≡ b → is_taken new q ≡ c → caller_of token q ≡ Some caller → caller_of token (enrol_step q name new).register ≡ Some caller
 caller-enrolled q token name new caller true c e f is = rw e is
@@ -70,25 +67,16 @@ caller-advanced q token caller date false e is = rw e is
 agent_with-token : (token other new name : List ℕ) (ms : List Member) → is_same new token ≡ false → is_same other name ≡ false → agent_with token ms ≡ Some name
     → agent_with token (with_token other new ms) ≡ Some name
 agent_with-token token other new name [] free differs is = absurd cc
-agent_with-token token other new name (m ∷ ms) free differs is = by_tests (is_same m.token token) (is_same m.name other) refl refl (agent_with-token token other new name ms free differs)
-  where
-    by_tests : (b c : Bool) → is_same m.token token ≡ b → is_same m.name other ≡ c → (agent_with token ms ≡ Some name → agent_with token (with_token other new ms) ≡ Some name)
-        → agent_with token (if c then record m { token = new } ∷ ms else m ∷ with_token other new ms) ≡ Some name
-    by_tests true true e f more =
-        let it : m.name ≡ name = let at = rw e at is in cc in
-        let same : is_same other name ≡ true = ap (is_same other) (sym it) ∙ same_sym other m.name ∙ f in
-        absurd cc
-    by_tests true false e f more = rw e (rw e at is)
-    by_tests false true e f more = rw free (rw e at is)
-    by_tests false false e f more = rw e (more (rw e at is))
+agent_with-token token other new name (m ∷ ms) free differs is = grind (arith, same_sym, agent_with-token token other new name ms free differs)
 
 no_registrar : (agent : Option (List ℕ)) → option_map Agent agent ≡ Some Registrar → ⊥
-no_registrar None h = cc
-no_registrar (Some name) h = cc
+no_registrar agent h = grind arith
+
+no_agent : (agent : Option (List ℕ)) → option_map Agent agent ≡ None → agent ≡ None
+no_agent agent h = grind arith
 
 an_agent : (agent : Option (List ℕ)) (name : List ℕ) → option_map Agent agent ≡ Some (Agent name) → agent ≡ Some name
-an_agent None name h = absurd cc
-an_agent (Some other) name h = cc
+an_agent agent name h = grind arith
 
 -- whether the request may take the caller's token away
 abbrev takes : Caller → Request → Bool
@@ -102,10 +90,6 @@ caller-with_renewal q token other new Registrar false e free kept is = absurd (n
 caller-with_renewal q token other new (Agent name) false e free kept is =
     rw e (ap (option_map Agent) (agent_with-token token other new name q.members free kept (an_agent (agent_with token q.members) name (rw e at is))))
 
-either_way : {X : Type 0} (b : Bool) (P : X → Type 0) (x y : X) → P x → P y → P (if b then x else y)
-either_way true P x y p q = p
-either_way false P x y p q = q
-
 caller-renewed : (q : Register) (token other new : List ℕ) (caller : Caller) (b : Bool) (c : Option Caller) → is_enrolled other q.members ≡ b → caller_of new q ≡ c → takes caller (of.Registrar (office.Renew other new)) ≡ false
     → caller_of token q ≡ Some caller → caller_of token (renew_step q other new).register ≡ Some caller
 caller-renewed q token other new caller false c e f kept is = rw e is
@@ -114,7 +98,7 @@ caller-renewed q token other new caller true None e f kept is =
     rw (e, f) (caller-with_renewal q token other new caller (is_same q.registrar token) refl (not_taken q token new caller is free) kept is)
 caller-renewed q token other new caller true (Some Registrar) e f kept is = rw (e, f) is
 caller-renewed q token other new caller true (Some (Agent owner)) e f kept is =
-    rw (e, f) (either_way (is_same owner other) (λ (o : Outcome (Result (List ℕ) RenewFault)). caller_of token o.register ≡ Some caller) (record { answer = Ok other; register = q }) (record { answer = Err renewals.TokenTaken; register = q }) is is)
+    rw (e, f) (cond_both (is_same owner other) (record { answer = Ok other; register = q }) (record { answer = Err renewals.TokenTaken; register = q }) (λ (o : Outcome (Result (List ℕ) RenewFault)). caller_of token o.register ≡ Some caller) (λ _. is) (λ _. is))
 
 caller-registrar : (q : Register) (token : List ℕ) (caller : Caller) (request : Request) → takes caller request ≡ false → caller_of token q ≡ Some caller → caller_of token (step q (Some Registrar) request).register ≡ Some caller
 caller-registrar q token caller (of.Registrar (office.Day date)) kept is = caller-advanced q token caller date (int_lt date q.day) refl is
@@ -148,8 +132,7 @@ registrar_kept q token (Ok asked ∷ ss) is =
 renewal_ok : (o : Result (List ℕ) RenewFault) (name : List ℕ) → IsTold (told tell.Renewed of_renewal o) (tell.Renewed name) → o ≡ Ok name
 renewal_ok (Ok told) name h = let same : told ≡ name = cc in ap Ok same
 renewal_ok (Err renewals.NoSuchAgent) name h = absurd cc
-renewal_ok (Err renewals.TokenTaken) name h = absurd cc
-renewal_ok (Err (renewals.Store fault)) name h = absurd cc
+renewal_ok (Err fault) name h = absurd cc
 
 -- the registrar asked, and nobody else
 record ByRegistrar (r : Register) (asked : Asked) (name token : List ℕ) : Type 0 where
@@ -157,9 +140,8 @@ record ByRegistrar (r : Register) (asked : Asked) (name token : List ℕ) : Type
   answer : (renew_step r name token).answer ≡ Ok name
 
 renewed_by : (r : Register) (asked : Asked) (name token : List ℕ) (caller : Option Caller) → caller_of asked.token r ≡ caller → IsTold (step r caller (of.Registrar (office.Renew name token))).answer (tell.Renewed name) → ByRegistrar r asked name token
-renewed_by r asked name token None is h = absurd cc
 renewed_by r asked name token (Some Registrar) is h = record { caller = is; answer = renewal_ok (renew_step r name token).answer name h }
-renewed_by r asked name token (Some (Agent asking)) is h = absurd cc
+renewed_by r asked name token caller is h = absurd cc
 
 by_registrar : (r : Register) (asked : Asked) (name token : List ℕ) → IsRenewed r asked name token → ByRegistrar r asked name token
 by_registrar r asked name token h =
@@ -176,21 +158,11 @@ left_by_renewal r asked name token request caller =
 -- a token that nobody had is the agent's
 agent_with-new : (name token : List ℕ) (ms : List Member) → is_enrolled name ms ≡ true → agent_with token ms ≡ None → agent_with token (with_token name token ms) ≡ Some name
 agent_with-new name token [] on none = absurd cc
-agent_with-new name token (m ∷ ms) on none = by_tests (is_same m.name name) (is_same m.token token) refl refl (agent_with-new name token ms)
-  where
-    by_tests : (b c : Bool) → is_same m.name name ≡ b → is_same m.token token ≡ c → (is_enrolled name ms ≡ true → agent_with token ms ≡ None → agent_with token (with_token name token ms) ≡ Some name)
-        → agent_with token (if b then record m { token = token } ∷ ms else m ∷ with_token name token ms) ≡ Some name
-    by_tests true c e f more = rw (same_refl token) (ap Some (same_is m.name name e))
-    by_tests false true e f more = absurd (let at = rw f at none in cc)
-    by_tests false false e f more = rw f (more (rw e at on) (rw f at none))
+agent_with-new name token (m ∷ ms) on none = grind (arith, same_refl token, same_is m.name name, agent_with-new name token ms)
 
 given-new : (r : Register) (name token : List ℕ) (b : Bool) → is_same r.registrar token ≡ b → is_enrolled name r.members ≡ true → caller_of token r ≡ None → caller_of token (with_renewal name token r) ≡ Some (Agent name)
 given-new r name token true e on none = absurd (let at = rw e at none in cc)
 given-new r name token false e on none = rw e (ap (option_map Agent) (agent_with-new name token r.members on (no_agent (agent_with token r.members) (rw e at none))))
-  where
-    no_agent : (agent : Option (List ℕ)) → option_map Agent agent ≡ None → agent ≡ None
-    no_agent None h = refl
-    no_agent (Some other) h = absurd cc
 
 given : (r : Register) (name token : List ℕ) (b : Bool) (c : Option Caller) → is_enrolled name r.members ≡ b → caller_of token r ≡ c → (renew_step r name token).answer ≡ Ok name
     → caller_of token (renew_step r name token).register ≡ Some (Agent name)

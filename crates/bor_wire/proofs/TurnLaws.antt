@@ -1,6 +1,7 @@
 -- Laws of exchanges in turn.
 use Rattle.bor_register.specs.declared.fault.StoreFault.{StoreFault}
 use Rattle.std.proofs.Common.{◌≡◌, inl, inr, ℕ, Option, List, [], ◌∷◌, ◌++◌, append_assoc, map, All, IsTrue, refl, sym, ap, subst, ◌∙◌}
+use Rattle.std.proofs.lemmas.Bool.{cond-false, cond-true}
 use Rattle.std.proofs.lemmas.List.{map-append}
 use Rattle.std.proofs.lemmas.List.Elements.{All-head, All-push, All-tail}
 use Rattle.bor_records.specs.Promises.{Meaning, Promised}
@@ -9,14 +10,14 @@ use Rattle.bor_desk.specs.Operations.Legality.{IsLegal}
 use Rattle.bor_wire.specs.Spelling.Spell.{Spelled, Spells}
 use Rattle.bor_wire.specs.Sent.{Sent, Full, Unavailable, IfFull, bytes_sent}
 use Rattle.bor_wire.specs.declared.outcome.Outcome.{Outcome}
-use Rattle.bor_wire.specs.declared.outcome.Outcome.TheVariants.{Replied, ReadFailed, WriteFailed}
+use Rattle.bor_wire.specs.declared.outcome.Outcome.TheVariants.{ReadFailed}
 use Rattle.bor_wire.specs.Answering.{IsAnsweredOver, Responds}
 use Rattle.bor_wire.specs.Replays.{IsReplayed, IsRunOver}
 use Rattle.bor_wire.specs.Runs.{AreSpelled, full, served}
 use Rattle.bor_wire.specs.Sequences.{AreExchanged, AreSpelledBy, Exchanged, IsNext, IsRun, answered, bytes_in, is_answered, keep_left}
 use Rattle.bor_wire.specs.Turns.{AnswersAreRuns, AnswersClean, ExchangeIsATurn, FrontsAreRuns, InTurn, IsRequestAnswered, IsTurn, IsTurnOver}
 use Rattle.bor_wire.proofs.RunLaws.{spelled_once}
-use Rattle.bor_wire.proofs.SequenceLaws.{a_run, began, dropped, kept}
+use Rattle.bor_wire.proofs.SequenceLaws.{a_run, began}
 
 -- ---- one more exchange
 
@@ -50,9 +51,8 @@ turn_over meaning old new outcome known held holds h = record {
 }
 
 pub a_turn : {K W : Type 0} (meaning : Meaning K Register W StoreFault) → ExchangeIsATurn meaning
-a_turn meaning old new (Replied status) known held holds h = inr (turn_over meaning old new (Replied status) known held holds h)
 a_turn meaning old new ReadFailed known held holds h = inl (refl, h.0)
-a_turn meaning old new (WriteFailed status) known held holds h = inr (turn_over meaning old new (WriteFailed status) known held holds h)
+a_turn meaning old new outcome known held holds h = inr (turn_over meaning old new outcome known held holds h)
 
 pub in_turn_more : {K W : Type 0} (meaning : Meaning K Register W StoreFault) (old mid new : K) (inputs : List (List ℕ)) (replies : List Sent) (input : List ℕ) (reply : Sent)
     → InTurn meaning old mid inputs replies → Responds meaning mid new input reply → InTurn meaning old new (inputs ++ input ∷ []) (replies ++ reply ∷ [])
@@ -95,8 +95,8 @@ turns_spelled meaning old new inputs replies h =
 -- those that were answered have the inputs that were served, and the full replies
 inputs_more : {K : Type 0} (e : Exchanged K) (es : List (Exchanged K)) (reply : Sent) → e.reply ≡ reply → inputs_in (answered es) ≡ served (inputs_in es) (replies_in es)
     → inputs_in (answered (e ∷ es)) ≡ served (e.input ∷ inputs_in es) (reply ∷ replies_in es)
-inputs_more e es (Full status bytes) is rest = ap inputs_in (kept (is_answered e.reply) e (answered es) (ap is_answered is)) ∙ ap (λ l. e.input ∷ l) rest
-inputs_more e es Unavailable is rest = ap inputs_in (dropped (is_answered e.reply) e (answered es) (ap is_answered is)) ∙ rest
+inputs_more e es (Full status bytes) is rest = ap inputs_in (cond-true (is_answered e.reply) (e ∷ answered es) (answered es) (ap is_answered is)) ∙ ap (λ l. e.input ∷ l) rest
+inputs_more e es Unavailable is rest = ap inputs_in (cond-false (is_answered e.reply) (e ∷ answered es) (answered es) (ap is_answered is)) ∙ rest
 
 inputs_served : {K : Type 0} (es : List (Exchanged K)) → inputs_in (answered es) ≡ served (inputs_in es) (replies_in es)
 inputs_served [] = refl
@@ -105,8 +105,8 @@ inputs_served (e ∷ es) = inputs_more e es e.reply refl (inputs_served es)
 bytes_more : {K : Type 0} (e : Exchanged K) (es : List (Exchanged K)) (reply : Sent) → e.reply ≡ reply → bytes_in (answered es) ≡ full (replies_in es)
     → bytes_in (answered (e ∷ es)) ≡ full (reply ∷ replies_in es)
 bytes_more e es (Full status bytes) is rest =
-    ap bytes_in (kept (is_answered e.reply) e (answered es) (ap is_answered is)) ∙ ap (λ reply. bytes_sent reply ∷ bytes_in (answered es)) is ∙ ap (λ l. bytes ∷ l) rest
-bytes_more e es Unavailable is rest = ap bytes_in (dropped (is_answered e.reply) e (answered es) (ap is_answered is)) ∙ rest
+    ap bytes_in (cond-true (is_answered e.reply) (e ∷ answered es) (answered es) (ap is_answered is)) ∙ ap (λ reply. bytes_sent reply ∷ bytes_in (answered es)) is ∙ ap (λ l. bytes ∷ l) rest
+bytes_more e es Unavailable is rest = ap bytes_in (cond-false (is_answered e.reply) (e ∷ answered es) (answered es) (ap is_answered is)) ∙ rest
 
 bytes_full : {K : Type 0} (es : List (Exchanged K)) → bytes_in (answered es) ≡ full (replies_in es)
 bytes_full [] = refl

@@ -17,6 +17,7 @@ use bor_desk::operations::Keep;
 /// of requests, each answered from a new register: where an agent's own are the same, on the same
 /// days and with the same published by the others at each, it receives the same bytes. This holds
 /// of each request, as of chains, evidence and the entities of an identifier.
+#[tactic(auto, using(crate::proofs::HeadlineLaws::invisible))]
 pub fn drafts_stay_invisible()
     ensures { DraftsStayInvisible }
 {}
@@ -24,6 +25,7 @@ pub fn drafts_stay_invisible()
 /// A chain report omits nobody and invents nobody. Of requests that are answered from a new
 /// register, each reply with status 200 to one for chains names exactly the persons joined to the
 /// entity. Each to one for the entities of an identifier has exactly those that the caller sees.
+#[tactic(auto, using(crate::proofs::HeadlineLaws::joined))]
 pub fn reports_name_the_joined()
     ensures { ReportsNameTheJoined }
 {}
@@ -42,6 +44,7 @@ pub fn exchanges_keep_drafts_invisible<K: Keep>()
 ///
 /// An agent keeps its token until a request to renew it. A renewal that is sent again before the
 /// next one acts once. This holds of every register and run.
+#[tactic(auto, using(crate::proofs::RepeatLaws::repeats))]
 pub fn repeats_act_once()
     ensures { RepeatsActOnce }
 {}
@@ -49,6 +52,7 @@ pub fn repeats_act_once()
 /// The order of refusals is one table, from the bytes of an input to the register: of all its lines
 /// that hold, the first is said, and where none does the status is below 400. This holds of every
 /// register and input.
+#[tactic(auto, using(crate::proofs::AllRefusalLaws::first_said))]
 pub fn the_first_refusal_is_said()
     ensures { TheFirstRefusalIsSaid }
 {}
@@ -72,12 +76,14 @@ pub fn entities_bytes_give_records()
 
 /// Two runs, from any two legal registers, in which an agent has the same filings at the start and
 /// the same history give it the same bytes in the same order.
+#[tactic(auto, using(crate::proofs::HistoryLaws::same_bytes))]
 pub fn same_history_same_bytes()
     ensures { SameHistorySameBytes }
 {}
 
 /// With one reply for each input of a run, an agent receives one for each exchange of its history,
 /// of every register and run.
+#[tactic(auto, using(crate::proofs::HistoryLaws::each_is_received))]
 pub fn each_is_received()
     ensures { EachIsReceived }
 {}
@@ -85,6 +91,7 @@ pub fn each_is_received()
 /// An input that spells no request, or has a token that nobody has, is in no agent's history and
 /// leaves the register, and no agent receives its reply. The reply depends on its bytes alone: the
 /// refusal that they spell, or `NoAgent`. This holds of every register and run.
+#[tactic(auto, using(crate::proofs::NobodyLaws::nobodys_inputs))]
 pub fn nobodys_inputs()
     ensures { NobodysInputs }
 {}
@@ -93,6 +100,7 @@ pub fn nobodys_inputs()
 /// [`respond`](crate::respond) says, are a run over what their inputs spell: the replies are the
 /// run's, the register left is too, and each agent receives what it would alone. Those with status
 /// 503 have no part in it.
+#[tactic(auto, using(crate::proofs::SequenceLaws::a_run))]
 pub fn exchanges_are_a_run<K: Keep>()
     ensures { ExchangesAreARun K.meaning }
 {}
@@ -100,6 +108,7 @@ pub fn exchanges_are_a_run<K: Keep>()
 /// By its contract an [`exchange`](crate::exchange) is one of exchanges one after the other, of all
 /// the bytes that its reader had, unless the reader failed, which leaves the keep. So the laws of
 /// exchanges hold of it.
+#[tactic(auto, using(crate::proofs::TurnLaws::a_turn))]
 pub fn an_exchange_is_a_turn<K: Keep>()
     ensures { ExchangeIsATurn K.meaning }
 {}
@@ -107,6 +116,7 @@ pub fn an_exchange_is_a_turn<K: Keep>()
 /// A front of exchanges one after the other is a run too, where the keep that it leaves is clean.
 /// So what was replied before a store failed keeps its promises, whatever the store does later on:
 /// `in_turn` of [`replay`](crate::replay) gives such exchanges, with the keep after each.
+#[tactic(auto, using(crate::proofs::TurnLaws::fronts))]
 pub fn fronts_are_runs<K: Keep>()
     ensures { FrontsAreRuns K.meaning }
 {}
@@ -115,6 +125,7 @@ pub fn fronts_are_runs<K: Keep>()
 /// that was answered with another status than 503, if the keep's store had returned what was
 /// written by then. So where a store shuts, the replies before keep their promises. That no request
 /// is answered behind it says `in_turn` of [`replay`](crate::replay), which gives such exchanges.
+#[tactic(auto, using(crate::proofs::TurnLaws::answers))]
 pub fn answers_are_runs<K: Keep>()
     ensures { AnswersAreRuns K.meaning }
 {}
@@ -123,6 +134,7 @@ pub fn answers_are_runs<K: Keep>()
 /// register, if its store has returned what was written: it shows the register after a front of
 /// them, or after that and the next one. The front is a run and has all up to any exchange after
 /// which the keep was clean; those with status 503 have no part in it.
+#[tactic(auto, using(crate::proofs::StopLaws::stops))]
 pub fn stops_leave_runs<K: Keep>()
     ensures { StopsLeaveRuns K.meaning }
 {}
@@ -130,6 +142,7 @@ pub fn stops_leave_runs<K: Keep>()
 /// Answered changes last: the front that [`stops_leave_runs`] speaks of has each request that was
 /// answered with another status than 503. A stop is one as an exchange ends; that one in its midst
 /// leaves no more is an argument of the store's.
+#[tactic(auto, using(crate::proofs::StopLaws::answers_last))]
 pub fn answers_last<K: Keep>()
     ensures { AnswersLast K.meaning }
 {}
@@ -137,6 +150,7 @@ pub fn answers_last<K: Keep>()
 /// A run that goes on from the register that another run left, as after a restart, is one run with
 /// it: the same replies, the same register at the end, and of each agent the history and the
 /// exchanges of the first and then those of the second. This holds of every register and run.
+#[tactic(auto, using(crate::proofs::RestartLaws::compose))]
 pub fn runs_compose()
     ensures { RunsCompose }
 {}
@@ -144,12 +158,14 @@ pub fn runs_compose()
 /// The same of exchanges one after the other, where the second ones begin with a keep of the
 /// register that the first ones left: together they are a run, with what both spell and the bytes
 /// that both sent, and the keep at the end shows the register that it leaves.
+#[tactic(auto, using(crate::proofs::RestartLaws::exchanges_compose))]
 pub fn exchanges_compose<K: Keep>()
     ensures { ExchangesCompose K.meaning.shows }
 {}
 
 /// After a run from a legal register an agent has the filings that follow from those at the start
 /// and its own history, whatever the others ask for.
+#[tactic(auto, using(crate::proofs::RestartLaws::filings_follow))]
 pub fn filings_follow_history()
     ensures { FilingsFollowHistory }
 {}
@@ -157,6 +173,7 @@ pub fn filings_follow_history()
 /// The first sentence of whole lives of registers, from new ones on, however many starts of the
 /// program each has: an agent whose own exchanges are the same in both, on the same days and with
 /// the same published by the others at each, receives the same bytes.
+#[tactic(auto, using(crate::proofs::RestartLaws::invisible_in_lives))]
 pub fn lives_keep_drafts_invisible()
     ensures { LivesKeepDraftsInvisible }
 {}

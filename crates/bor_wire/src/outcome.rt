@@ -92,6 +92,7 @@ fn read_reply<K: Keep, R: Read>(
 /// too, ends the exchange as [`Outcome::ReadFailed`], and what was read is no whole request; a write
 /// that fails or takes nothing ends it as [`Outcome::WriteFailed`]. Each comes exactly where that
 /// end's count of faults moved.
+#[tactic(auto, using(crate::proofs::Exchanged::by_outcome))]
 pub fn exchange<K: Keep, R: Read, W: Write>(
     alloc: Global,
     keep: &mut K,

@@ -90,6 +90,7 @@ fn rendered(alloc: Global, mut out: Vec<u8>, reply: &DeskReply) -> Reply
 
 // The reply to a request. The room for a short one is reserved before the desk is asked, so that
 // no change is made whose reply finds no memory.
+#[tactic(auto, using(crate::proofs::Responses::nothing_goes_out))]
 fn answered<K: Keep>(alloc: Global, keep: &mut K, asking: &Asking) -> Response
     ensures { GoesOutFor K.meaning keep.old keep.new result.agent result.reply
         (Ok (asked_view asking.now)) }
@@ -117,6 +118,7 @@ fn answered<K: Keep>(alloc: Global, keep: &mut K, asking: &Asking) -> Response
 /// answered. The input's bytes may be let go before. A keep whose store has shut, or shuts
 /// meanwhile, answers a request with 503, if the store has returned what was written; where there
 /// is neither a request nor a refusal, the reply is 503 and nothing is asked of the keep.
+#[tactic(auto, using(crate::proofs::Exchanged::unasked, crate::proofs::Responses::refusal_goes_out))]
 pub fn respond_to<K: Keep>(
     alloc: Global,
     keep: &mut K,

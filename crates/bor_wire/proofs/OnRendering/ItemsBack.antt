@@ -1,22 +1,13 @@
 -- What is read back of the items of a list of JSON.
-use Rattle.std.proofs.Common.{◌≡◌, suc, List, [], ◌∷◌, map, sym, ap, arith}
+use Rattle.std.proofs.Common.{◌≡◌, suc, List, [], ◌∷◌, map, sym, arith}
 use Rattle.std.specs.Prelude.{All, ⊤}
 use Rattle.std.specs.List.{AllZip}
 use Rattle.std.proofs.lemmas.List.Elements.{same_from_all_zip}
 use Rattle.json.specs.Json as json
-use Rattle.json.specs.Json.{Json}
 use Rattle.json.specs.Tree.{HasNumbers, ItemsHaveNumbers}
 use Rattle.serde_json.specs.Data.{Data}
 use Rattle.serde_json.specs.View.{items_of}
 use Rattle.serde_json.specs.Written.{outline, items_outline}
-
-abbrev first_item : json.Items → Json
-first_item (json.item j js) = j
-first_item json.no_items = json.null
-
-abbrev other_items : json.Items → json.Items
-other_items (json.item j js) = js
-other_items json.no_items = json.no_items
 
 -- the items of the list, as they are read back
 abbrev pub items_in : {A : Type 0} → (A → Data) → List A → json.Items
@@ -26,10 +17,9 @@ items_in as_data xs = items_outline (items_of (map as_data xs))
 pub each_once : {A : Type 0} (as_data : A → Data) (P : A → Type 0) (R : A → A → Type 0) → ((x y : A) → P x → P y → outline (as_data x) ≡ outline (as_data y) → R x y)
     → (xs ys : List A) → All P xs → All P ys → items_in as_data xs ≡ items_in as_data ys → AllZip R xs ys
 each_once as_data P R one [] [] p q h = tt
-each_once as_data P R one [] (y ∷ ys) p q h = absurd cc
-each_once as_data P R one (x ∷ xs) [] p q h = absurd cc
 each_once as_data P R one (x ∷ xs) (y ∷ ys) p q h =
-    (one x y (p 0 x (omega arith)) (q 0 y (omega arith)) (ap first_item h), each_once as_data P R one xs ys (λ k d l. p (suc k) d (omega arith)) (λ k d l. q (suc k) d (omega arith)) (ap other_items h))
+    (one x y (p 0 x (omega arith)) (q 0 y (omega arith)) cc, each_once as_data P R one xs ys (λ k d l. p (suc k) d (omega arith)) (λ k d l. q (suc k) d (omega arith)) cc)
+each_once as_data P R one xs ys p q h = absurd cc
 
 -- where it determines the item, they determine the list
 pub items_once : {A : Type 0} (as_data : A → Data) (P : A → Type 0) → ((x y : A) → P x → P y → outline (as_data x) ≡ outline (as_data y) → x ≡ y)

@@ -2,7 +2,7 @@
 use Rattle.std.proofs.Common.{◌≡◌, ℕ, zero, suc, ◌+◌, ◌/◌, ◌%◌, List, [], ◌∷◌, ◌++◌, length, Bool, true, false, cond, not, Option, Some, None, append_assoc, refl, sym, ap, ◌∙◌, arith}
 use Rattle.std.specs.Prelude.{nat_eq, codes, decimal, ◌==◌, nat_lt}
 use Rattle.std.specs.Fmt.{digits, digits_onto, digit_glyph}
-use Rattle.std.proofs.lemmas.Bool.{and_parts}
+use Rattle.std.proofs.lemmas.Bool.{and_parts, cond_both}
 use Rattle.std.proofs.lemmas.Bool.Decides.{nat_tests}
 use Rattle.std.proofs.lemmas.List.Folds.{list_all-append}
 use Rattle.http.specs.StatusCode.{code_digits}
@@ -38,22 +38,14 @@ stop (b ∷ bytes) rest h =
 -- ---- digits
 
 glyph : (d : ℕ) → not (digit_glyph false d == 13) ≡ true
-glyph d = by_size (nat_lt d 10)
-  where
-    by_size : (small : Bool) → not (cond small (48 + d) (87 + d) == 13) ≡ true
-    by_size true = grind (arith, nat_tests)
-    by_size false = grind (arith, nat_tests)
-
-chosen : (last : Bool) (here more : List ℕ) → one_line here ≡ true → one_line more ≡ true → one_line (cond last here more) ≡ true
-chosen true here more h m = h
-chosen false here more h m = m
+glyph d = cond_both (nat_lt d 10) (48 + d) (87 + d) (λ b. not (b == 13) ≡ true) (λ e. grind (arith, nat_tests)) (λ e. grind (arith, nat_tests))
 
 onto : (k n : ℕ) (acc : List ℕ) → one_line acc ≡ true → one_line (digits_onto k 10 false n acc) ≡ true
 onto zero n acc h = h
 onto (suc k) n acc h =
     let here = digit_glyph false (n % 10) ∷ acc in
     let plain : one_line here ≡ true = rw (glyph (n % 10)) h in
-    chosen (n / 10 == 0) here (digits_onto k 10 false (n / 10) here) plain (onto k (n / 10) here plain)
+    cond_both (n / 10 == 0) here (digits_onto k 10 false (n / 10) here) (λ bytes. one_line bytes ≡ true) (λ e. plain) (λ e. onto k (n / 10) here plain)
 
 plain_decimal : (n : ℕ) → one_line (decimal n) ≡ true
 unfolding digits
@@ -113,17 +105,7 @@ allowed : (path : Path) (body : List ℕ) →
     behind (codes "\r\n\r\n") (codes "\r\n" ++ (field_line (codes "Allow") (allow path) ++ (codes "Connection: close\r\n\r\n" ++ body))) ≡ body
 unfolding behind field_line allow
 allowed paths.Filing body = refl
-allowed paths.Filings body = refl
-allowed paths.File body = refl
-allowed paths.Published body = refl
-allowed paths.Snapshot body = refl
-allowed paths.Chains body = refl
-allowed paths.Evidence body = refl
-allowed paths.Entities body = refl
-allowed paths.Day body = refl
-allowed paths.Agents body = refl
-allowed paths.Agent body = refl
-allowed paths.Register body = refl
+allowed path body = refl
 
 behind_tail : (status : ℕ) (path : Option Path) (body : List ℕ) → behind (codes "\r\n\r\n") (tail status path body) ≡ body
 unfolding own_line

@@ -6,7 +6,7 @@ use Rattle.std.proofs.lemmas.Bool.Decides.{nat_tests}
 use Rattle.json.specs.Print.{escape_byte, quoted}
 use Rattle.bor_terms.specs.Texts.{is_agent_name, is_name_byte}
 use Rattle.bor_register.specs.declared.filing.State.{State}
-use Rattle.bor_register.specs.declared.filing.State.TheVariants.{Draft, Published, Withdrawn}
+use Rattle.bor_register.specs.declared.filing.State.TheVariants.{Draft}
 use Rattle.bor_register.specs.Publication.{state_word}
 use Rattle.bods_read.specs.declared.fault.Field.{Field}
 use Rattle.bods_read.specs.declared.fault.Field.TheVariants as fields
@@ -25,7 +25,7 @@ use Rattle.bor_desk.specs.Refusals.{refusal_name}
 use Rattle.bor_http.specs.declared.incoming.fault.Name.{Name}
 use Rattle.bor_http.specs.declared.incoming.fault.Name.TheVariants as names
 use Rattle.bor_http.specs.declared.incoming.fault.Refusal as wire
-use Rattle.bor_http.specs.declared.incoming.fault.Refusal.TheVariants.{HeadTooLarge, CutShort, BadHead, BadLength, BodyTooLarge, NoPath, WrongMethod, NoToken, BadQuery}
+use Rattle.bor_http.specs.declared.incoming.fault.Refusal.TheVariants.{HeadTooLarge}
 use Rattle.bor_http.specs.Incoming.Words.{name_word, refusal_word}
 use Rattle.bor_http.specs.declared.incoming.fault.Path.{Path}
 use Rattle.bor_http.specs.declared.incoming.fault.Path.TheVariants as paths
@@ -56,8 +56,7 @@ refusal_is name (Some place) (Some field) =
 pub state_short : (state : State) → length (state_word state) ≤ 9
 unfolding state_word
 state_short Draft = omega arith
-state_short Published = omega arith
-state_short Withdrawn = omega arith
+state_short state = omega arith
 
 within : (n : ℕ) (rest : Bool) → ((nat_le 1 n && nat_le n 32) && rest) ≡ true → n ≤ 32
 within n rest h = grind (arith, nat_tests)
@@ -69,106 +68,40 @@ name_short name fits = within (length name) (list_all is_name_byte name) fits
 pub field_short : (field : Field) → length (field_word field) ≤ 18
 unfolding field_word
 field_short fields.Statement = omega arith
-field_short fields.StatementId = omega arith
-field_short fields.StatementDate = omega arith
-field_short fields.DeclarationSubject = omega arith
-field_short fields.RecordId = omega arith
-field_short fields.RecordType = omega arith
-field_short fields.RecordStatus = omega arith
-field_short fields.RecordDetails = omega arith
-field_short fields.Identifiers = omega arith
-field_short fields.Subject = omega arith
-field_short fields.InterestedParty = omega arith
-field_short fields.Interests = omega arith
-field_short fields.Share = omega arith
-field_short fields.Exact = omega arith
-field_short fields.Minimum = omega arith
-field_short fields.Maximum = omega arith
-field_short fields.ExclusiveMinimum = omega arith
-field_short fields.ExclusiveMaximum = omega arith
+field_short field = omega arith
 
 pub query_short : (name : Name) → length (name_word name) ≤ 18
 unfolding name_word
 query_short names.Key = omega arith
-query_short names.Due = omega arith
-query_short names.Agent = omega arith
-query_short names.Declaration = omega arith
-query_short names.Record = omega arith
-query_short names.Scheme = omega arith
-query_short names.Id = omega arith
-query_short names.Date = omega arith
-query_short names.Name = omega arith
-query_short names.Token = omega arith
+query_short name = omega arith
 
 fault_short : (fault : Fault) → length (fault_word fault) ≤ 15
 unfolding fault_word
 fault_short (faults.Missing field) = omega arith
-fault_short (faults.Bad field) = omega arith
-fault_short faults.Fraction = omega arith
-fault_short faults.ShareRange = omega arith
-fault_short faults.EmptyShare = omega arith
-fault_short (faults.TooLong field) = omega arith
+fault_short fault = omega arith
 
 file_fault_short : (fault : FileFault) → length (file_fault_word fault) ≤ 15
 unfolding file_fault_word
-file_fault_short files.NotJson = omega arith
-file_fault_short files.NotAList = omega arith
-file_fault_short files.NoStatements = omega arith
-file_fault_short files.TooMany = omega arith
 file_fault_short (files.At place fault) = fault_short fault
+file_fault_short fault = omega arith
 
 record_fault_short : (fault : RecordFault) → length (fault_name fault) ≤ 15
 unfolding fault_name
 record_fault_short records.TypeChanged = omega arith
-record_fault_short records.RecordExists = omega arith
-record_fault_short records.RecordUnknown = omega arith
-record_fault_short records.RecordClosed = omega arith
-record_fault_short records.DateBack = omega arith
-record_fault_short records.DueBeforeRecord = omega arith
+record_fault_short fault = omega arith
 
 pub refusal_short : (why : desk.Refusal) → length (refusal_name why) ≤ 15
 unfolding refusal_name
-refusal_short refuse.NoAgent = omega arith
-refusal_short refuse.NotRegistrar = omega arith
-refusal_short refuse.NotAgent = omega arith
-refusal_short refuse.KeyReused = omega arith
-refusal_short refuse.FilingsFull = omega arith
-refusal_short refuse.DuePast = omega arith
 refusal_short (refuse.Read fault) = file_fault_short fault
-refusal_short (refuse.StatementTwice place) = omega arith
 refusal_short (refuse.Record place fault) = record_fault_short fault
-refusal_short refuse.NoSuchFiling = omega arith
-refusal_short refuse.Published = omega arith
-refusal_short refuse.HasSuccessor = omega arith
-refusal_short refuse.NoEntity = omega arith
-refusal_short refuse.DayBack = omega arith
-refusal_short refuse.NameTaken = omega arith
-refusal_short refuse.TokenTaken = omega arith
-refusal_short refuse.NoSuchAgent = omega arith
+refusal_short why = omega arith
 
 pub wire_refusal_short : (why : wire.Refusal) → length (refusal_word why) ≤ 15
 unfolding refusal_word
 wire_refusal_short HeadTooLarge = omega arith
-wire_refusal_short CutShort = omega arith
-wire_refusal_short BadHead = omega arith
-wire_refusal_short BadLength = omega arith
-wire_refusal_short BodyTooLarge = omega arith
-wire_refusal_short NoPath = omega arith
-wire_refusal_short (WrongMethod path) = omega arith
-wire_refusal_short NoToken = omega arith
-wire_refusal_short (BadQuery _) = omega arith
+wire_refusal_short why = omega arith
 
 pub allow_short : (path : Path) → length (allow path) ≤ 11
 unfolding allow
 allow_short paths.Filing = omega arith
-allow_short paths.Filings = omega arith
-allow_short paths.File = omega arith
-allow_short paths.Published = omega arith
-allow_short paths.Snapshot = omega arith
-allow_short paths.Chains = omega arith
-allow_short paths.Evidence = omega arith
-allow_short paths.Entities = omega arith
-allow_short paths.Day = omega arith
-allow_short paths.Agents = omega arith
-allow_short paths.Agent = omega arith
-allow_short paths.Register = omega arith
+allow_short path = omega arith

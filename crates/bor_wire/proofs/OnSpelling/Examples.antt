@@ -88,10 +88,6 @@ heads =
     ∷ ((codes "a:b" ++ 10 ∷ fields_and_end 65, None), HeadTooLarge ∷ BadHead ∷ [])
     ∷ []
 
-heads_found : found heads ≡ expected heads
-unfolding speller
-heads_found = refl
-
 -- 16,384 bytes without a head, and one byte less
 no_head_in_many : refusals_spelled (many head_limit) None ≡ HeadTooLarge ∷ []
 unfolding speller
@@ -127,10 +123,6 @@ bodies =
     ∷ (with_lengths (length_is (codes "1048577") ∷ encoded ∷ []) [], BadLength ∷ BodyTooLarge ∷ CutShort ∷ [])
     ∷ []
 
-bodies_found : found bodies ≡ expected bodies
-unfolding speller
-bodies_found = refl
-
 -- ---- 7 to 9
 
 abbrev targets : Cases
@@ -147,10 +139,6 @@ targets =
     ∷ (request (codes "GET") (codes "/nothing") (length_is (codes "1") ∷ []) [], CutShort ∷ NoPath ∷ NoToken ∷ [])
     ∷ (request (codes "PUT") (codes "/filings") [] [], WrongMethod paths.Filings ∷ NoToken ∷ [])
     ∷ []
-
-targets_found : found targets ≡ expected targets
-unfolding speller
-targets_found = refl
 
 -- a list of the filings, asked for with this field
 abbrev with_field : List ℕ → List ℕ → List ℕ × Option Parts
@@ -173,9 +161,12 @@ tokens =
     ∷ (request (codes "GET") (codes "/filings") (by_alder ∷ by_alder ∷ []) [], NoToken ∷ [])
     ∷ []
 
-tokens_found : found tokens ≡ expected tokens
+abbrev about_messages : Cases
+about_messages = heads ++ bodies ++ targets ++ tokens
+
+about_messages_found : found about_messages ≡ expected about_messages
 unfolding speller
-tokens_found = refl
+about_messages_found = refl
 
 -- ---- 10
 
@@ -203,10 +194,6 @@ lodgings =
     ∷ (request (codes "PUT") (codes "/filings/f1") [] [], NoToken ∷ BadQuery names.Due ∷ [])
     ∷ []
 
-lodgings_found : found lodgings ≡ expected lodgings
-unfolding speller
-lodgings_found = refl
-
 abbrev keys : Cases
 keys =
     (request (codes "DELETE") (codes "/filings/f1") (by_alder ∷ []) [], [])
@@ -214,10 +201,6 @@ keys =
     ∷ (get (codes "/filings/f/file"), [])
     ∷ (get (codes "/filings/,/file"), BadQuery names.Key ∷ [])
     ∷ []
-
-keys_found : found keys ≡ expected keys
-unfolding speller
-keys_found = refl
 
 abbrev snapshots : Cases
 snapshots =
@@ -231,10 +214,6 @@ snapshots =
     ∷ (get (codes "/snapshot?agent=Alder&declaration=%01"), BadQuery names.Agent ∷ BadQuery names.Declaration ∷ [])
     ∷ (get (codes "/snapshot?agent=alder&date=x"), BadQuery names.Declaration ∷ BadQuery names.Date ∷ [])
     ∷ []
-
-snapshots_found : found snapshots ≡ expected snapshots
-unfolding speller
-snapshots_found = refl
 
 abbrev chains : Cases
 chains =
@@ -250,10 +229,6 @@ chains =
     ∷ (get (codes "/chains?agent=alder&declaration=c1&date"), BadQuery names.Record ∷ BadQuery names.Date ∷ [])
     ∷ []
 
-chains_found : found chains ≡ expected chains
-unfolding speller
-chains_found = refl
-
 abbrev evidence : Cases
 evidence =
     (get (codes "/evidence?agent=alder&declaration=c1&record=e1"), [])
@@ -262,10 +237,6 @@ evidence =
     -- together
     ∷ (get (codes "/evidence?record=e1&date=1"), BadQuery names.Agent ∷ BadQuery names.Declaration ∷ BadQuery names.Date ∷ [])
     ∷ []
-
-evidence_found : found evidence ≡ expected evidence
-unfolding speller
-evidence_found = refl
 
 abbrev entities : Cases
 entities =
@@ -279,10 +250,6 @@ entities =
     ∷ (get (codes "/entities?scheme=%01"), BadQuery names.Scheme ∷ BadQuery names.Id ∷ [])
     ∷ (get (codes "/entities?scheme=a&date"), BadQuery names.Id ∷ BadQuery names.Date ∷ [])
     ∷ []
-
-entities_found : found entities ≡ expected entities
-unfolding speller
-entities_found = refl
 
 -- a request with a body of so many digits' length
 abbrev post : List ℕ → List ℕ → List ℕ → List ℕ × Option Parts
@@ -303,10 +270,6 @@ by_the_registrar =
     ∷ (post (codes "/agents") (codes "0") [], BadQuery names.Name ∷ BadQuery names.Token ∷ [])
     ∷ []
 
-by_the_registrar_found : found by_the_registrar ≡ expected by_the_registrar
-unfolding speller
-by_the_registrar_found = refl
-
 -- the agent's name is the segment of the path as it stands, and its new token the whole body
 abbrev renew : List ℕ → List ℕ → List ℕ → List ℕ × Option Parts
 renew target length body = request (codes "PUT") target (by_alder ∷ length_is length ∷ []) body
@@ -322,9 +285,12 @@ renewals =
     ∷ (renew (codes "/agents/cedar,?token=cedar-token-000002") (codes "0") [], BadQuery names.Name ∷ BadQuery names.Token ∷ [])
     ∷ []
 
-renewals_found : found renewals ≡ expected renewals
+abbrev about_names : Cases
+about_names = lodgings ++ keys ++ snapshots ++ chains ++ evidence ++ entities ++ by_the_registrar ++ renewals
+
+about_names_found : found about_names ≡ expected about_names
 unfolding speller
-renewals_found = refl
+about_names_found = refl
 
 -- ---- what is asked where no refusal holds
 

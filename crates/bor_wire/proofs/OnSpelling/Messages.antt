@@ -82,7 +82,6 @@ refuses_as input Read h = h
 refuses_as input Memory h = tt
 
 pub spells_as : (input : List ℕ) (m : Message) (result : Result Asking WireFault) → IsMessage input (Ok m) → FindsStated asked_view result (spell m) → SpellsAs input result
-spells_as input m (Ok asking) is h = subst (Spells input) h (message_spelled input (Ok m) is)
-spells_as input m (Err (Refused why)) is h = subst (Spells input) h (message_spelled input (Ok m) is)
 spells_as input m (Err Read) is h = absurd h
 spells_as input m (Err Memory) is h = tt
+spells_as input m result is h = subst (Spells input) h (message_spelled input (Ok m) is)

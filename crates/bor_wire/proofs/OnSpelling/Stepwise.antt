@@ -39,38 +39,30 @@ one_name n (Some a) any f = refl
 two_names : {A B X : Type 0} (n m : Name) (a : Option A) (b : Option B) (any : A) (other : B) (f : A → B → X)
     → (named n a >>= λ x. named m b >>= λ y. Ok (f x y))
     ≡ outcome (table (asks n a ∷ asks m b ∷ [])) (f (unwrap_or a any) (unwrap_or b other))
-two_names n m None b any other f = refl
-two_names n m (Some a) None any other f = refl
 two_names n m (Some a) (Some b) any other f = refl
+two_names n m a b any other f = refl
 
 three_names : {A B C X : Type 0} (n m k : Name) (a : Option A) (b : Option B) (c : Option C) (any : A) (other : B) (third : C) (f : A → B → C → X)
     → (named n a >>= λ x. named m b >>= λ y. named k c >>= λ z. Ok (f x y z))
     ≡ outcome (table (asks n a ∷ asks m b ∷ asks k c ∷ [])) (f (unwrap_or a any) (unwrap_or b other) (unwrap_or c third))
-three_names n m k None b c any other third f = refl
-three_names n m k (Some a) None c any other third f = refl
-three_names n m k (Some a) (Some b) None any other third f = refl
 three_names n m k (Some a) (Some b) (Some c) any other third f = refl
+three_names n m k a b c any other third f = refl
 
 -- two names that make one value, and a third
 two_and_one : {A B C Y X : Type 0} (n m k : Name) (a : Option A) (b : Option B) (c : Option C)
     (any : A) (other : B) (third : C) (g : A → B → Y) (f : Y → C → X)
     → ((named n a >>= λ x. named m b >>= λ y. Ok (g x y)) >>= λ v. named k c >>= λ w. Ok (f v w))
     ≡ outcome (table (asks n a ∷ asks m b ∷ asks k c ∷ [])) (f (g (unwrap_or a any) (unwrap_or b other)) (unwrap_or c third))
-two_and_one n m k None b c any other third g f = refl
-two_and_one n m k (Some a) None c any other third g f = refl
-two_and_one n m k (Some a) (Some b) None any other third g f = refl
 two_and_one n m k (Some a) (Some b) (Some c) any other third g f = refl
+two_and_one n m k a b c any other third g f = refl
 
 -- three names that make one value, and a fourth
 four_names : {A B C D Y X : Type 0} (n m k l : Name) (a : Option A) (b : Option B) (c : Option C) (d : Option D)
     (any : A) (other : B) (third : C) (fourth : D) (g : A → B → C → Y) (f : Y → D → X)
     → ((named n a >>= λ x. named m b >>= λ y. named k c >>= λ z. Ok (g x y z)) >>= λ v. named l d >>= λ w. Ok (f v w))
     ≡ outcome (table (asks n a ∷ asks m b ∷ asks k c ∷ asks l d ∷ [])) (f (g (unwrap_or a any) (unwrap_or b other) (unwrap_or c third)) (unwrap_or d fourth))
-four_names n m k l None b c d any other third fourth g f = refl
-four_names n m k l (Some a) None c d any other third fourth g f = refl
-four_names n m k l (Some a) (Some b) None d any other third fourth g f = refl
-four_names n m k l (Some a) (Some b) (Some c) None any other third fourth g f = refl
 four_names n m k l (Some a) (Some b) (Some c) (Some d) any other third fourth g f = refl
+four_names n m k l a b c d any other third fourth g f = refl
 
 abbrev node : List ℕ → List ℕ → List ℕ → Node
 node agent declaration rec = record { agent = agent; declaration = declaration; rec = rec }
@@ -82,9 +74,7 @@ request_stepwise : (r : Route) (m : Message) → request_by_steps r m ≡ outcom
 unfolding request_by_steps node_by_steps identifier_by_steps lodging_by_steps snapshot_by_steps enrolment_by_steps renewal_by_steps
 request_stepwise routes.Lodge m = two_names names.Key names.Due (part.key m) (part.due m) [] (pos 0) (λ key due. of.Agent (ask.Lodge key due m.body))
 request_stepwise routes.Withdraw m = one_name names.Key (part.key m) [] (λ key. of.Agent (ask.Withdraw key))
-request_stepwise routes.Filings m = refl
 request_stepwise routes.File m = one_name names.Key (part.key m) [] (λ key. of.Agent (ask.File key))
-request_stepwise routes.Published m = refl
 request_stepwise routes.Snapshot m =
     three_names names.Agent names.Declaration names.Date (part.agent m) (part.declaration m) (part.date_or_none m) [] [] None
     (λ agent declaration date. of.Agent (ask.Snapshot agent declaration date))
@@ -102,7 +92,7 @@ request_stepwise routes.Enrol m =
     two_names names.Name names.Token (part.new_name m) (part.new_token m) [] [] (λ name token. of.Registrar (office.Enrol name token))
 request_stepwise routes.Renew m =
     two_names names.Name names.Token (part.name m) (part.new_token m) [] [] (λ name token. of.Registrar (office.Renew name token))
-request_stepwise routes.Register m = refl
+request_stepwise route m = refl
 
 -- ---- the lines about the whole message
 

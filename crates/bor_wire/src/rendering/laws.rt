@@ -11,6 +11,7 @@ pub fn unavailable_is_a_reply()
 
 /// Of each reply the body stands behind the first empty line, and `Content-Length` tells in decimal
 /// how many bytes that are.
+#[tactic(auto, using(crate::proofs::OnRendering::LengthTold::length_is_told))]
 pub fn length_is_told()
     ensures { LengthIsTold }
 {}

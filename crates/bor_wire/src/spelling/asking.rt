@@ -170,6 +170,7 @@ pub fn parse_by(alloc: Global, paths: &Paths, raw: &RawRequest<'_>) -> Result<As
 /// # Errors
 ///
 /// The message's own fault; else the first refusal that [`parse`] gives, or `Memory`.
+#[tactic(auto, using(crate::proofs::OnSpelling::Messages::refuses_as, crate::proofs::OnSpelling::Messages::spells_as))]
 pub fn spelled(
     alloc: Global,
     paths: &Paths,

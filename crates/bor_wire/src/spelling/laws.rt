@@ -8,12 +8,14 @@ pub fn spells_one()
 {}
 
 /// `read_request` and `parse` together give what the whole input spells.
+#[tactic(auto, using(crate::proofs::OnSpelling::Messages::message_spelled))]
 pub fn message_spells()
     ensures { MessageSpells }
 {}
 
 /// Bytes behind a request have no effect, nor have those behind an input that is refused for
 /// another cause than that it ended.
+#[tactic(auto, using(crate::proofs::OnSpelling::Messages::what_follows))]
 pub fn what_follows_is_passed_over()
     ensures { WhatFollowsIsPassedOver }
 {}

@@ -21,6 +21,7 @@ pub(crate) struct QueryPair {
     value: String,
 }
 
+#[tactic(auto, using(crate::proofs::OnSpelling::Texts::texts))]
 fn decoded_pair(alloc: Global, name: &[u8], value: &[u8]) -> Result<QueryPair, AllocError>
     ensures { IfOk result (λ pair. pair_text pair ≡ decoded (name.now, value.now)) }
 {

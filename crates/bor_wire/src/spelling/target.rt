@@ -33,6 +33,7 @@ fn behind(bytes: &[u8], count: usize) -> &[u8]
 }
 
 /// The key in the path of a filing.
+#[tactic(auto, unfolding(crate::specs::Spelling::Parts::key_in), using(crate::proofs::OnSpelling::Texts::texts))]
 pub(crate) fn key_at(alloc: Global, path: &[u8]) -> Result<LodgeKey, WireFault>
     ensures { FindsStated (λ key. key) result (named names.Key (key_in path.now)) }
 {
@@ -47,6 +48,7 @@ pub(crate) fn key_at(alloc: Global, path: &[u8]) -> Result<LodgeKey, WireFault>
 }
 
 /// The name in the path of an agent.
+#[tactic(auto, unfolding(crate::specs::Spelling::Parts::name_in), using(crate::proofs::OnSpelling::Texts::texts))]
 pub(crate) fn name_at(alloc: Global, path: &[u8]) -> Result<AgentName, WireFault>
     ensures { FindsStated (λ name. name) result (named names.Name (name_in path.now)) }
 {

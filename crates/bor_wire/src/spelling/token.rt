@@ -23,6 +23,7 @@ fn without_spaces(bytes: &[u8]) -> &[u8]
 }
 
 // The token that bytes are, or the refusal.
+#[tactic(auto, using(crate::proofs::OnSpelling::Texts::texts))]
 fn fitting_token(alloc: Global, bytes: &[u8], why: Refusal) -> Result<Token, WireFault>
     ensures { FindsStated (λ token. token) result
         (or_refuse why (part.text_in is_token bytes.now)) }

@@ -1,4 +1,4 @@
-use Rattle.bor_wire.proofs.EvidenceBytes.{entities_given}
+use Rattle.bor_wire.proofs.ReportBytes.{entities_given}
 use Rattle.bor_wire.proofs.laws.entities_bytes_give_records.Goals as goal
 
 pub returns : goal.returns

@@ -1,9 +1,8 @@
-use Rattle.std.proofs.Common.{Ok}
 use Rattle.bor_register.specs.Register.{caller_of}
 use Rattle.bor_desk.specs.Outcomes.{agent_of}
 use Rattle.bor_desk.proofs.Steps.{ordered_for}
 use Rattle.bor_wire.specs.Spelling.Spell.{asked_view}
-use Rattle.bor_wire.proofs.Responses.{if_full, named_beside, no_refusal, nothing_goes_out, rendered_goes, rendered_keeps, rendered_status}
+use Rattle.bor_wire.proofs.Responses.{if_full, named_beside, no_refusal, rendered_goes, rendered_keeps, rendered_status}
 use Rattle.bor_wire.proofs.response.answered.Goals as goal
 
 pub returns-in-Some : goal.returns-in-Some
@@ -37,6 +36,3 @@ returns-in-None g c =
       refused = λ why e. tt;
       status = tt;
     })
-
-pub returns-in_default : goal.returns-in_default
-returns-in_default g c = rw c.unavailable.ensures (nothing_goes_out g.K.Keep.meaning c.args.keep.now (Ok (asked_view c.args.asking.now)))

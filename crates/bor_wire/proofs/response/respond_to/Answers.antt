@@ -3,14 +3,9 @@ use Rattle.bor_http.specs.declared.incoming.fault.WireFault.TheVariants.{Refused
 use Rattle.bor_wire.specs.Spelling.Spell.{RefusesAs, asked_view}
 use Rattle.bor_wire.specs.Exchanges.{IsFor, agent_spelled}
 use Rattle.bor_wire.proofs.OnSpelling.Messages.{one_spelling}
-use Rattle.bor_wire.proofs.Exchanged.{goes_out, unasked}
+use Rattle.bor_wire.proofs.Exchanged.{goes_out}
 use Rattle.bor_wire.proofs.Responses.{nobody_named, refusal_goes_out}
 use Rattle.bor_wire.proofs.response.respond_to.Goals as goal
-
-pub returns-in-Err-Refused-clause-goes : goal.returns-in-Err-Refused-clause-goes
-returns-in-Err-Refused-clause-goes g c =
-    let is : c.in-Err-Refused.field-0 ≡ Refused c.in-Err-Refused.refusal = rw c.in-Err-Refused.is at c.in-Err-Refused.field-0-is in
-    rw (c.in-Err-Refused.is, is) (refusal_goes_out g.K.Keep.meaning c.args.keep.now c.refused.result c.in-Err-Refused.refusal c.refused.ensures.refusal c.refused.ensures.status)
 
 pub returns-in-Ok-clause-answers : goal.returns-in-Ok-clause-answers
 returns-in-Ok-clause-answers g c = λ input spells.
@@ -35,9 +30,3 @@ returns-in-Err-Refused-clause-agent g c = λ input is_this r is clean spelled sp
     let is : c.in-Err-Refused.field-0 ≡ Refused c.in-Err-Refused.refusal = rw c.in-Err-Refused.is at c.in-Err-Refused.field-0-is in
     subst (λ spelled. IsFor c.refused.result None (agent_spelled r spelled)) (one_spelling input (Err c.in-Err-Refused.refusal) spelled (rw is at refused) spells)
     (nobody_named c.refused.result)
-
-pub returns-in-Err-clause-answers : goal.returns-in-Err-clause-answers
-returns-in-Err-clause-answers g c = rw c.unavailable.ensures (λ input spells. unasked g.K.Keep.meaning c.args.keep.now input)
-
-pub returns-in-Err-clause-agent : goal.returns-in-Err-clause-agent
-returns-in-Err-clause-agent g c = rw c.unavailable.ensures (λ input is_this r is clean spelled spells. tt)

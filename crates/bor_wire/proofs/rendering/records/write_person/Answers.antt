@@ -1,11 +1,8 @@
-use Rattle.bor_wire.proofs.OnRendering.Writing.{added, ended, wrote}
+use Rattle.std.proofs.Common.{append_assoc, rules}
+use Rattle.std.proofs.lemmas.Result.{IfOk-equal}
 use Rattle.bor_wire.proofs.rendering.records.write_person.Goals as goal
 
 pub returns : goal.returns
 returns c =
-    rw c.as_str.ensures at (
-    wrote c.in_ok-begin_object.ensures (
-    added c.in_ok-write_text.ensures (
-    wrote c.in_ok-key.ensures (
-    added c.in_ok-write_maybe.ensures (
-    ended c.end_object.ensures)))))
+    rw (← c.as_str.ensures)
+    (search (rules, IfOk-equal, append_assoc))

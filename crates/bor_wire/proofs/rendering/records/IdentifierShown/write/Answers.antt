@@ -1,13 +1,8 @@
-use Rattle.bor_wire.proofs.OnRendering.Writing.{added, ended, wrote}
+use Rattle.std.proofs.Common.{append_assoc, rules}
+use Rattle.std.proofs.lemmas.Result.{IfOk-equal}
 use Rattle.bor_wire.proofs.rendering.records.IdentifierShown.write.Goals as goal
 
 pub returns : goal.returns
 returns c =
-    rw (
-      c.as_str.ensures.value,
-      c.as_str-2.ensures.value,
-    ) at (
-    wrote c.in_ok-begin_object.ensures (
-    added c.in_ok-write_text.ensures (
-    added c.in_ok-write_text-2.ensures (
-    ended c.end_object.ensures))))
+    rw (← c.as_str.ensures.value, ← c.as_str-2.ensures.value)
+    (search (rules, IfOk-equal, append_assoc))
