@@ -1,6 +1,5 @@
 -- The statement that a record shows on a day, from the rows of its series.
-use Rattle.std.proofs.Common.{◌≡◌, List, map, Bool, true, false, Option, Some, None, option_map, option_and_then, refl, sym, ap, ◌∙◌}
-use Rattle.std.specs.Prelude.{◌&&◌, filter, int_le, if◌then◌else◌}
+use Rattle.std.proofs.Common.{◌≡◌, List, [], ◌∷◌, ◌++◌, Vec, Global, Ok, map, Bool, true, false, Option, Some, None, option_map, option_and_then, refl, sym, ap, ◌∙◌, ◌&&◌, filter, int_le, if◌then◌else◌}
 use Rattle.std.specs.List.{last_or}
 use Rattle.sqlite_keyed.proofs.ListLemmas.{filter-map}
 use Rattle.bor_records.specs.declared.row.Row.{Row}
@@ -16,9 +15,12 @@ use Rattle.bor_store_sql.specs.Rows.Placed.{bare}
 use Rattle.bor_store_sql.specs.Rows.Seen.{is_seen, row_placed}
 use Rattle.bor_store_sql.specs.Rows.Stored.{IsStored}
 use Rattle.bor_store_sql.specs.Selected.{in_series, placed_of}
-use Rattle.bor_register.proofs.OnMemory.Lists.{last_map}
+use Rattle.bor_register.proofs.OnMemory.Lists.{last_before, last_map, last_passes}
 use Rattle.bor_store_sql.proofs.OnRows.SeenPlaced.{filters_swap}
 use Rattle.bor_store_sql.proofs.Picking.{filter_both}
+use Rattle.sqlite.specs.State.{State}
+use Rattle.bor_store_reads.specs.Answering.{ReadsAs}
+use Rattle.bor_store_reads.proofs.Reading.{read_next, read_so}
 use Rattle.bor_store_keys.specs.declared.view.View.{View}
 use Rattle.bor_store_keys.specs.Latest.{bare_row, is_row_seen, stored_unless_closed}
 use Rattle.bor_store_keys.specs.Viewed.{rows_seen}
@@ -67,3 +69,16 @@ module _ (view : View) (n : Node) (r : Register) (stored : IsStored r) where
   -- an open row stands somewhere
   pub opened_stands : (row : Row) → open_at view.day n (rows_seen view r) ≡ Some row → Stands r row
   opened_stands row e = stands view.viewer view.today r stored row (open_row_is view.day (rows_seen view r) row (open_at_in view.day n (rows_seen view r) row e).0).0
+
+-- ---- the last row that is told
+
+module _ (test : Register → StatementRow → Bool) (whole rest : List StatementRow) {old mid new : State} {rows : Vec StatementRow Global} {row : StatementRow} {told : Bool}
+    (before : ReadsAs old mid (Ok rows) (λ r left. last_or None (filter (test r) whole) ≡ last_or None (filter (test r) left.items))) (left : rows.items ≡ rest ++ row ∷ []) (asked : ReadsAs mid new (Ok told) (λ r is. is ≡ test r row)) where
+  -- the one behind the others is
+  pub found_last : told ≡ true → ReadsAs old new (Ok (Some row)) (λ r last. last ≡ last_or None (filter (test r) whole))
+  found_last is_told = read_so (read_next before asked) (λ r stored is. last_passes (test r) rows.items rest row left (sym is.1 ∙ is_told) ∙ sym is.0)
+
+  -- it isn't, so that the others are left
+  pub passed_last : {more : Vec StatementRow Global} → more.items ≡ rest → told ≡ false → ReadsAs old new (Ok more) (λ r left. last_or None (filter (test r) whole) ≡ last_or None (filter (test r) left.items))
+  passed_last same not_told = read_so (read_next before asked)
+      (λ r stored is. is.0 ∙ last_before (test r) rows.items rest row left (sym is.1 ∙ not_told) ∙ ap (λ l. last_or None (filter (test r) l)) (sym same))

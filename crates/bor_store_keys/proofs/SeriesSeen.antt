@@ -1,6 +1,5 @@
 -- The rows of a series that a viewer sees, from the statements of the series.
-use Rattle.std.proofs.Common.{◌≡◌, ℕ, ◌+◌, ℤ, List, [], ◌∷◌, map, Bool, Contains, sym, ap, ◌∙◌, subst}
-use Rattle.std.specs.Prelude.{◌&&◌, filter}
+use Rattle.std.proofs.Common.{◌≡◌, ℕ, ◌+◌, ℤ, List, [], ◌∷◌, map, Bool, Contains, sym, ap, ◌∙◌, subst, ◌&&◌, filter}
 use Rattle.std.specs.List.{AllByRecursion}
 use Rattle.std.proofs.lemmas.List.Elements.{All-contains}
 use Rattle.sqlite_keyed.proofs.ListLemmas.{all-append, filter-map}
@@ -20,11 +19,10 @@ use Rattle.bor_store_sql.specs.declared.rows.typed.Placed.{Placed}
 use Rattle.bor_store_sql.specs.Rows.Placed.{placed, placed_by, placed_from}
 use Rattle.bor_store_sql.specs.Rows.Seen.{is_seen, row_placed}
 use Rattle.bor_store_sql.specs.Rows.Stored.{AllNumbered, IsStored}
-use Rattle.bor_store_sql.proofs.OnRows.Apart.{all_apart}
 use Rattle.bor_store_sql.proofs.OnRows.SeenPlaced.{rows_in-placed, visible_placed, filter_same, filters_swap}
 use Rattle.bor_store_sql.specs.Selected.{in_series, placed_of}
 use Rattle.bor_store_reads.proofs.FoundFilings.{own_numbered}
-use Rattle.bor_store_sql.proofs.Alone.{IsAlone, each_alone, own_placed}
+use Rattle.bor_store_sql.proofs.Alone.{IsAlone, own_alone_at}
 use Rattle.bor_register.proofs.OneAgent.{one_agent}
 
 -- ---- an agent's own statements
@@ -72,5 +70,5 @@ stands viewer today r stored row h =
       at = m.0;
       is = sym m.2;
       own = own;
-      alone = All-contains (IsAlone (placed r.members)) (placed_of n.agent r) m.0 (own_placed (IsAlone (placed r.members)) n.agent r.members (each_alone (placed r.members) (all_apart r.members stored.ordered stored.numbered))) there;
+      alone = All-contains (IsAlone (placed r.members)) (placed_of n.agent r) m.0 (own_alone_at n.agent r stored) there;
     }

@@ -1,10 +1,9 @@
--- The row that an open record shows.
-use Rattle.std.proofs.Common.{◌≡◌, map, append-nil, Option, Some, None, option_map, refl, sym, ap, ap₂, ◌∙◌}
-use Rattle.std.specs.List.{flat_map}
+-- The row that an open record shows, and where it stands.
+use Rattle.std.proofs.Common.{◌≡◌, map, append-nil, Option, Some, None, option_map, refl, sym, ap, ap₂, ◌∙◌, flat_map, List, slice_get}
 use Rattle.std.proofs.lemmas.Option.{same_Some}
 use Rattle.bor_records.specs.declared.row.Row.{Row}
 use Rattle.bor_records.specs.declared.links.node.Node.{Node}
-use Rattle.bor_records.specs.Links.Series.{open_at}
+use Rattle.bor_records.specs.Links.Series.{open_at, series_of}
 use Rattle.bor_register.specs.Register.{Register}
 use Rattle.bor_store_sql.specs.declared.rows.typed.Placed.{Placed}
 use Rattle.bor_store_sql.specs.declared.rows.typed.StatementRow.{StatementRow}
@@ -20,6 +19,10 @@ use Rattle.bor_store_keys.specs.Latest.{bare_row, listed_row}
 use Rattle.bor_store_keys.specs.Viewed.{rows_seen}
 use Rattle.bor_store_keys.proofs.SeriesSeen.{Stands}
 use Rattle.bor_store_keys.proofs.OpenAt.{opened_stands}
+use Rattle.bor_records.proofs.OnLinks.ByKey.{open_at_in}
+use Rattle.bor_store_sql.specs.declared.rows.places.At.{At}
+use Rattle.bor_store_keys.specs.Recorded.{placed_record}
+use Rattle.bor_store_keys.specs.Signed.{record_standing}
 
 -- the lists at a statement's place are its own
 listed_placed : (r : Register) (p : Placed) → IsAlone (placed r.members) p → listed_row r.members (bare p) ≡ row_placed p
@@ -47,3 +50,14 @@ module _ (view : View) (n : Node) (r : Register) (stored : IsStored r) where
     -- with its lists it is what is open
     pub row_found : Some (listed_row r.members row) ≡ now
     row_found = let f = found_placed in ap (λ x. Some (listed_row r.members x)) f.1 ∙ ap Some (listed_placed r f.0 f.3) ∙ sym f.2
+
+-- where it stands its record is found
+abbrev at_of : Row → At
+at_of row = record { agent = row.agent; filing = row.filing; place = row.place }
+
+pub placed_there : (view : View) (n : Node) (r : Register) → IsStored r → (row : Row) → open_at view.day n (rows_seen view r) ≡ Some row → record_standing r.members (at_of row) ≡ Some n
+placed_there view n r stored row e =
+    let s : Stands r row = opened_stands view n r stored row e in
+    ap (λ (x : Row). record_standing r.members (at_of x)) s.is
+    ∙ ap (λ (ps : List Placed). option_map placed_record (slice_get ps 0)) s.alone
+    ∙ ap Some (sym (ap series_of s.is) ∙ (open_at_in view.day n (rows_seen view r) row e).1)

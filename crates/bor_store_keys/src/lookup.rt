@@ -93,7 +93,7 @@ impl<S: Alter + Drop> Lookup<S> {
 }
 
 // A read of the tables leaves the answers that have been found.
-#[tactic(auto, using(crate::proofs::Holding::still_found, bor_store_reads::proofs::Reading::read_fails))]
+#[tactic(auto, using(crate::proofs::Holding::still_found, crate::proofs::Holding::read_within, bor_store_reads::proofs::Reading::read_fails))]
 impl<S: Alter + Drop> Lookup<S> {
     /// The register's day, as it is read.
     pub(crate) fn read_today(&mut self, alloc: Global) -> Result<Day, ReadError>

@@ -54,6 +54,7 @@ fn note_shown<S: Alter + Drop>(
 }
 
 // A node with its identifiers, as the tables have it.
+#[tactic(auto, using(bor_store_reads::proofs::Reading::read_fails, bor_store_reads::proofs::Reading::read_wants, crate::proofs::Holding::read_left))]
 fn node_read<S: Alter + Drop>(
     lookup: &mut Lookup<S>,
     alloc: Global,

@@ -50,6 +50,7 @@ pub(crate) fn view_of<S: Alter + Drop>(
 }
 
 // Whether the viewer sees the agent's filing with this number, as the tables have it.
+#[tactic(auto, using(bor_store_reads::proofs::Reading::read_fails, bor_store_reads::proofs::Reading::read_wants, crate::proofs::Holding::read_left))]
 fn filing_read<S: Alter + Drop>(
     lookup: &mut Lookup<S>,
     alloc: Global,

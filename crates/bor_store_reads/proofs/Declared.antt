@@ -1,8 +1,6 @@
 -- The statements of a declaration with their lists, and which of them a viewer sees.
-use Rattle.std.proofs.Common.{◌≡◌, ℕ, ℤ, ◌+◌, ◌<◌, List, [], ◌∷◌, ◌++◌, map, append-nil, append_assoc, Bool, true, false, cond, Option, Some, None, option_map, refl, sym, ap, ap₂, ◌∙◌, slice_get, arith}
-use Rattle.std.specs.Prelude.{All, ◌==◌, ◌&&◌, ◌||◌, filter, if◌then◌else◌}
+use Rattle.std.proofs.Common.{◌≡◌, ℕ, ℤ, ◌+◌, ◌<◌, List, [], ◌∷◌, ◌++◌, map, append-nil, append_assoc, Bool, true, false, cond, Option, Some, None, option_map, refl, sym, ap, ap₂, ◌∙◌, slice_get, arith, All, ◌==◌, ◌&&◌, ◌||◌, filter, if◌then◌else◌}
 use Rattle.std.specs.List.{flat_map, list_any}
-use Rattle.std.proofs.lemmas.Bool.Decides.{nat_tests}
 use Rattle.std.proofs.lemmas.List.Elements.{All-head, All-tail, All-filter}
 use Rattle.std.proofs.lemmas.List.Folds.{flat_map-map}
 use Rattle.std.proofs.lemmas.Option.{none-some, same_Some}
@@ -23,6 +21,7 @@ use Rattle.bor_records.specs.declared.row.Row.{Row}
 use Rattle.bor_store_sql.specs.Rows.Seen.{is_line_visible, row_placed}
 use Rattle.bor_store_sql.specs.Rows.Stored.{AreNumbered, IsStored}
 use Rattle.bor_store_sql.proofs.OnRows.Numbers.{other_number}
+use Rattle.bor_store_sql.proofs.OnRows.Successors.{is_number}
 use Rattle.bor_store_sql.specs.Selected.{in_declaration, numbered, placed_of}
 use Rattle.bor_store_sql.proofs.Alone.{IsAlone, own_alone_at}
 use Rattle.bor_store_reads.specs.Asking.{is_number_seen, part_identifiers, part_interests}
@@ -48,10 +47,9 @@ interests_are : (ms : List Member) (p : Placed) → IsAlone (placed ms) p → pa
 interests_are ms p alone = go p.statement.details refl
   where
     go : (d : Details) → p.statement.details ≡ d → part_interests (part_of d) p.at ms ≡ interests_from p.at 1 (interests_listed d)
-    go (details.Entity kind name identifiers) e = refl
-    go (details.Person kind name) e = refl
     go (details.Relationship subject party interests) e =
         ap (flat_map interest_rows) alone ∙ append-nil (interest_rows p) ∙ ap (λ d. interests_from p.at 1 (interests_listed d)) e
+    go d e = refl
 
 -- an entity's identifiers, and no others' are there
 identifiers_are : (ms : List Member) (p : Placed) → IsAlone (placed ms) p → part_identifiers (part_of p.statement.details) p.at ms ≡ identifier_rows p
@@ -60,8 +58,7 @@ identifiers_are ms p alone = go p.statement.details refl
     go : (d : Details) → p.statement.details ≡ d → part_identifiers (part_of d) p.at ms ≡ identifiers_from p.at 1 (identifiers_listed d)
     go (details.Entity kind name identifiers) e =
         ap (flat_map identifier_rows) alone ∙ append-nil (identifier_rows p) ∙ ap (λ d. identifiers_from p.at 1 (identifiers_listed d)) e
-    go (details.Person kind name) e = refl
-    go (details.Relationship subject party interests) e = refl
+    go d e = refl
 
 pub declared_interests : (agent declaration : List ℕ) (r : Register) → IsStored r
     → flat_map (λ (row : StatementRow). part_interests row.part row.at r.members) (map bare (in_declaration declaration (placed_of agent r))) ≡ flat_map interest_rows (in_declaration declaration (placed_of agent r))
@@ -85,9 +82,6 @@ first_passes : (v : AcceptedFiling → Bool) (number n : ℕ) (fs : List Accepte
 first_passes v number n [] h = refl
 first_passes v number n (f ∷ fs) h = go (f.number == number) refl (first_passes v number (n + 1) fs h.1)
   where
-    is_number : (a b : ℕ) → (a == b) ≡ true → a ≡ b
-    is_number a b e = grind (arith, nat_tests)
-
     or_false : (b : Bool) → (b || false) ≡ b
     or_false true = refl
     or_false false = refl

@@ -3,7 +3,5 @@ pub mod Reading
 pub mod Lists
 pub mod FoundAgents
 pub mod FoundFilings
-pub mod LastOnes
 pub mod FoundStatements
-pub mod Whole
 pub mod Declared

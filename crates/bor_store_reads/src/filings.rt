@@ -115,7 +115,6 @@ fn found_lines<S: Alter>(
 }
 
 /// The lines of the agent's filings on the register's day, by number.
-#[tactic(auto, using(crate::proofs::FoundFilings::lines_found))]
 pub fn read_filings<S: Alter>(
     conn: &mut Connection<S>,
     alloc: Global,

@@ -6,7 +6,7 @@
 //! (`bor_store_sql`), the answer is what `Keep` of `bor_register::keeping` says of that register,
 //! or, of the reads of single rows, the rows that a definition names; or memory or the store
 //! failed: [`ReadError::Damaged`] is never answered of such tables (`specs/Answering`).
-#![tactic(auto, using(crate::proofs::Reading::read_fails))]
+#![tactic(auto, using(crate::proofs::Reading::read_fails, crate::proofs::Reading::read_wants))]
 
 mod agents;
 mod declarations;

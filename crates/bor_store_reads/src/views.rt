@@ -17,7 +17,6 @@ use std::alloc::Global;
 /// The rows of all agents that the viewer sees: of its own live filings, and of the others'
 /// published ones. They stand by agent, then in order of acceptance and of place. A viewer that
 /// isn't enrolled sees what is published.
-#[tactic(auto, using(crate::proofs::Whole::visible_is))]
 pub fn read_visible<S: Alter>(
     conn: &mut Connection<S>,
     alloc: Global,
@@ -33,7 +32,6 @@ pub fn read_visible<S: Alter>(
 
 /// The outward forms of the published filings, which all see: by agent, those of an agent in order
 /// of acceptance.
-#[tactic(auto, using(crate::proofs::Whole::published_is))]
 pub fn read_published<S: Alter>(
     conn: &mut Connection<S>,
     alloc: Global,

@@ -1,10 +1,6 @@
-use Rattle.std.proofs.Common.{subst}
 use Rattle.bor_records.specs.Links.Answers.{AreAliases}
-use Rattle.bor_store_reads.proofs.Reading.{read_as, read_next}
-use Rattle.bor_store_keys.specs.Viewed.{seen}
-use Rattle.bor_store_keys.specs.declared.view.View.{View}
+use Rattle.bor_store_keys.proofs.Holding.{read_viewed}
 use Rattle.bor_store_keys.proofs.alike.read_aliases.Goals as goal
 
 pub returns : goal.returns
-returns g c = read_as (read_next c.in_ok-view.ensures c.aliases_in.ensures)
-    (λ r nodes stored is. subst (λ (view : View). AreAliases (seen view r) c.args.node.now nodes.items) is.0 is.1)
+returns g c = read_viewed (λ shown nodes. AreAliases shown c.args.node.now nodes.items) c.in_ok-view.ensures c.aliases_in.ensures

@@ -4,7 +4,7 @@ use Rattle.bor_store_sql.specs.declared.rows.places.At.{At}
 use Rattle.bor_store_keys.specs.Finding.{place_cmp}
 use Rattle.bor_store_keys.specs.Signed.{record_standing}
 use Rattle.bor_store_keys.proofs.Holding.{exact_place, one_more}
-use Rattle.bor_store_keys.proofs.Placing.{placed_there}
+use Rattle.bor_store_keys.proofs.Told.{placed_there}
 use Rattle.bor_store_keys.proofs.found.put_place.Goals as goal
 
 pub returns : goal.returns

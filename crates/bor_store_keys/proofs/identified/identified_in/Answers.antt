@@ -1,17 +1,12 @@
-use Rattle.std.proofs.Common.{refl}
 use Rattle.sqlite.specs.Held.{state}
 use Rattle.bor_records.proofs.OnLinks.Series.{nodes_distinct}
-use Rattle.bor_store_reads.proofs.Found.{answered}
+use Rattle.bor_store_reads.proofs.Reading.{read_as}
 use Rattle.bor_store_keys.specs.Viewed.{rows_seen}
-use Rattle.bor_store_keys.proofs.Holding.{read_noted}
+use Rattle.bor_store_keys.proofs.Holding.{read_noted, read_seen}
 use Rattle.bor_store_keys.proofs.identified.identified_in.Goals as goal
 
 pub returns : goal.returns
-returns g c = read_noted (state g.S.Store) (c.lookup-1.given.1 c.identified.ensures.leads.0) (record {
-  reads = c.identified.ensures.leads.2;
-  up = c.identified.ensures.lasts;
-  answer = λ clean r shows.
-      let view = c.args.view.now in
-      answered c.identified.result _ _ (λ nodes h. h (nodes_distinct view.day (rows_seen view r)))
-      (c.identified.ensures.answer clean (record { view = view; register = r }) (refl, shows));
-})
+returns g c =
+    let view = c.args.view.now in
+    read_noted (state g.S.Store) (c.lookup-1.given.1 c.identified.ensures.leads.0)
+    (read_as (read_seen _ c.identified.ensures.leads.2 c.identified.ensures.lasts c.identified.ensures.answer) (λ r nodes stored h. h (nodes_distinct view.day (rows_seen view r))))

@@ -1,5 +1,4 @@
-use Rattle.std.proofs.Common.{◌≡◌, None, Ok, vec_len}
-use Rattle.std.specs.Prelude.{filter}
+use Rattle.std.proofs.Common.{◌≡◌, None, Ok, vec_len, filter}
 use Rattle.std.specs.List.{last_or}
 use Rattle.sqlite.specs.Held.{state}
 use Rattle.bor_register.specs.Register.{filings_of}

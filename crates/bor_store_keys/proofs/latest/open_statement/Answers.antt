@@ -1,5 +1,4 @@
-use Rattle.std.proofs.Common.{None, option_and_then, sym, ap, ◌∙◌}
-use Rattle.std.specs.Prelude.{filter}
+use Rattle.std.proofs.Common.{None, option_and_then, sym, ap, ◌∙◌, filter}
 use Rattle.std.specs.List.{last_or}
 use Rattle.bor_register.specs.Register.{filings_of}
 use Rattle.bor_store_reads.proofs.Reading.{read_next, read_so}

@@ -1,7 +1,7 @@
 use Rattle.std.proofs.Common.{◌∙◌, Some, ap, slice_get, sym}
 use Rattle.bor_store_sql.specs.Selected.{standing_at}
 use Rattle.bor_store_reads.proofs.Reading.{read_so}
-use Rattle.bor_store_keys.proofs.Signing.{standing_found, standing_none}
+use Rattle.bor_store_keys.proofs.Recording.{standing_found, standing_none}
 use Rattle.bor_store_keys.proofs.records.record_read.Goals as goal
 
 pub returns-in-Some : goal.returns-in-Some

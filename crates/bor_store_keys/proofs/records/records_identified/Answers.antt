@@ -1,9 +1,8 @@
-use Rattle.std.proofs.Common.{List, ap, ◌∙◌}
-use Rattle.std.specs.List.{filter_map}
+use Rattle.std.proofs.Common.{List, ap, ◌∙◌, filter_map}
 use Rattle.bor_store_sql.specs.declared.rows.typed.IdentifierRow.{IdentifierRow}
 use Rattle.bor_store_reads.proofs.Reading.{read_next, read_so}
 use Rattle.bor_store_keys.specs.Signed.{record_standing}
-use Rattle.bor_store_keys.proofs.Signing.{identified_cover}
+use Rattle.bor_store_keys.proofs.Recording.{identified_cover}
 use Rattle.bor_store_keys.proofs.records.records_identified.Goals as goal
 
 pub returns : goal.returns

@@ -1,6 +1,5 @@
 use Rattle.bor_store_reads.proofs.Lists.{all_done}
-use Rattle.std.proofs.Common.{arith, Option, rules, refl}
-use Rattle.std.specs.List.{filter_map}
+use Rattle.std.proofs.Common.{arith, Option, rules, refl, filter_map}
 use Rattle.bor_records.specs.declared.links.node.Node.{Node}
 use Rattle.bor_store_sql.specs.declared.rows.typed.IdentifierRow.{IdentifierRow}
 use Rattle.bor_store_reads.proofs.Reading.{read_next, read_so, unread}

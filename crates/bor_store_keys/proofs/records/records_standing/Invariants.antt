@@ -1,5 +1,4 @@
-use Rattle.std.proofs.Common.{◌≡◌, ◌++◌, drop, Ok}
-use Rattle.std.specs.List.{filter_map}
+use Rattle.std.proofs.Common.{◌≡◌, ◌++◌, drop, Ok, filter_map}
 use Rattle.sqlite.specs.Held.{state}
 use Rattle.bor_store_reads.specs.Answering.{ReadsAs}
 use Rattle.bor_store_keys.specs.Signed.{record_standing}

@@ -1,10 +1,7 @@
 use Rattle.std.proofs.Common.{map, ap, ◌∙◌}
 use Rattle.bor_register.specs.Publication.{agent_line}
-use Rattle.bor_store_reads.proofs.Reading.{read_next, read_so, read_wants}
+use Rattle.bor_store_reads.proofs.Reading.{read_next, read_so}
 use Rattle.bor_store_reads.proofs.agents.read_agents.Goals as goal
-
-pub returns-in_err-agent_lines : goal.returns-in_err-agent_lines
-returns-in_err-agent_lines g c = read_wants c.from_residual-in_err-agent_lines.ensures.1 (read_next c.in_ok-day.ensures (read_next c.in_ok-agents.ensures c.in_ok-filings.ensures)).reads
 
 pub returns : goal.returns
 returns g c = read_so (read_next c.in_ok-day.ensures (read_next c.in_ok-agents.ensures c.in_ok-filings.ensures))

@@ -1,5 +1,4 @@
-use Rattle.std.proofs.Common.{◌≡◌, ◌++◌, drop, Ok}
-use Rattle.std.specs.List.{flat_map}
+use Rattle.std.proofs.Common.{◌≡◌, ◌++◌, drop, Ok, flat_map}
 use Rattle.sqlite.specs.Held.{state}
 use Rattle.bor_store_reads.specs.Answering.{ReadsAs}
 use Rattle.bor_store_reads.specs.Asking.{part_interests}

@@ -1,11 +1,10 @@
-use Rattle.std.proofs.Common.{◌∙◌}
-use Rattle.std.specs.Prelude.{filter}
+use Rattle.std.proofs.Common.{◌∙◌, filter}
 use Rattle.bor_store_sql.specs.declared.rows.typed.Placed.{Placed}
 use Rattle.bor_store_sql.specs.Rows.Placed.{placed, same_place}
 use Rattle.bor_store_sql.proofs.OnRows.Apart.{all_apart, apart_filter}
 use Rattle.bor_store_sql.proofs.OnRows.Timings.{all_several}
 use Rattle.bor_store_sql.specs.Selected.{interests_at}
-use Rattle.bor_store_reads.proofs.Reading.{read_next, read_so, read_wants}
+use Rattle.bor_store_reads.proofs.Reading.{read_next, read_so}
 use Rattle.bor_store_reads.proofs.declarations.interests_of_one.Goals as goal
 
 pub returns : goal.returns
@@ -15,6 +14,3 @@ returns g c =
     (λ r stored is.
     (let here = filter (λ (p : Placed). same_place p.at at) (placed r.members) in
     c.in_ok-with_periods.ensures (interests_at at r.members) (all_several here (apart_filter (λ (p : Placed). same_place p.at at) (placed r.members) (all_apart r.members stored.ordered stored.numbered))) is.0 (c.as_slice.ensures.value ∙ is.1)))
-
-pub returns-in_err-with_periods : goal.returns-in_err-with_periods
-returns-in_err-with_periods g c = read_wants c.from_residual-in_err-with_periods.ensures.1 (read_next c.in_ok-lines.ensures c.in_ok-periods.ensures).reads

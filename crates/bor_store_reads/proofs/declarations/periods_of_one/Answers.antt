@@ -1,19 +1,5 @@
-use Rattle.std.proofs.Common.{refl}
-use Rattle.std.specs.Prelude.{filter}
-use Rattle.std.proofs.lemmas.List.Elements.{All-filter}
-use Rattle.bor_store_sql.specs.declared.rows.typed.Placed.{Placed}
-use Rattle.bor_store_sql.specs.Rows.Placed.{placed, same_place}
-use Rattle.bor_store_sql.specs.Rows.Encoding.{period_columns}
-use Rattle.bor_store_sql.specs.Rows.RowForms.{IsFormedPlaced, IsFormedPeriodRow}
-use Rattle.bor_store_sql.proofs.OnRows.Formed.{placed_formed, all_interests_formed, all_periods_formed}
-use Rattle.bor_store_sql.specs.Selected.{interests_at}
-use Rattle.bor_store_reads.proofs.Found.{all_told}
+use Rattle.bor_store_reads.proofs.FoundStatements.{periods_told, standing_formed}
 use Rattle.bor_store_reads.proofs.declarations.periods_of_one.Goals as goal
 
 pub returns : goal.returns
-returns g c =
-    let at = c.args.at.now in
-    all_told period_columns IsFormedPeriodRow c.periods_of_statement.ensures
-    (λ r. refl)
-    (λ r stored. all_periods_formed (interests_at at r.members) (all_interests_formed (filter (λ p. same_place p.at at) (placed r.members)) (All-filter (λ (p : Placed). same_place p.at at) IsFormedPlaced (placed r.members) (placed_formed r stored))))
-    c.all_values.ensures.values c.all_values.ensures.found
+returns g c = periods_told _ (standing_formed c.args.at.now) c.periods_of_statement.ensures c.all_values.ensures.values c.all_values.ensures.found

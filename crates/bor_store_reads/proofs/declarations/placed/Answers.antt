@@ -1,5 +1,4 @@
-use Rattle.std.proofs.Common.{ap, ◌∙◌}
-use Rattle.std.specs.List.{flat_map}
+use Rattle.std.proofs.Common.{ap, ◌∙◌, flat_map}
 use Rattle.bor_terms.specs.Texts.{is_same}
 use Rattle.bor_register.specs.Register.{filings_of}
 use Rattle.bor_store_sql.specs.declared.rows.typed.Placed.{Placed}
@@ -9,7 +8,7 @@ use Rattle.bor_store_sql.specs.Selected.{in_declaration, placed_of}
 use Rattle.bor_store_reads.specs.Asking.{part_identifiers, part_interests}
 use Rattle.bor_store_reads.proofs.Declared.{declared_identifiers, declared_interests}
 use Rattle.bor_store_reads.proofs.FoundFilings.{own_numbered}
-use Rattle.bor_store_reads.proofs.Reading.{read_next, read_so, read_wants}
+use Rattle.bor_store_reads.proofs.Reading.{read_next, read_so}
 use Rattle.bor_store_reads.proofs.declarations.placed.Goals as goal
 
 pub returns : goal.returns
@@ -22,6 +21,3 @@ returns g c =
     (apart_filter (λ (p : Placed). is_same p.statement.declaration declaration) (placed_of agent r) (apart_by agent 1 (filings_of agent r.members) (own_numbered agent r.members stored.numbered))) is.0
     (c.as_slice-3.ensures.value ∙ is.1.0 ∙ ap (flat_map (λ (row : StatementRow). part_interests row.part row.at r.members)) (c.as_slice.ensures.value ∙ is.0) ∙ declared_interests agent declaration r stored)
     (c.as_slice-4.ensures.value ∙ is.1.1 ∙ ap (flat_map (λ (row : StatementRow). part_identifiers row.part row.at r.members)) (c.as_slice-2.ensures.value ∙ is.0) ∙ declared_identifiers agent declaration r stored))
-
-pub returns-in_err-joined : goal.returns-in_err-joined
-returns-in_err-joined g c = read_wants c.from_residual-in_err-joined.ensures.1 (read_next c.in_ok-statements.ensures (read_next c.in_ok-interests.ensures c.in_ok-identifiers.ensures)).reads

@@ -1,5 +1,4 @@
-use Rattle.std.proofs.Common.{map, sym, ap₂, ◌∙◌}
-use Rattle.std.specs.Prelude.{filter}
+use Rattle.std.proofs.Common.{map, sym, ap₂, ◌∙◌, filter}
 use Rattle.bor_register.specs.Register.{filings_of}
 use Rattle.bor_store_sql.specs.Rows.Seen.{is_seen, row_placed}
 use Rattle.bor_store_sql.proofs.OnRows.SeenPlaced.{rows_of-placed}

@@ -1,22 +1,9 @@
-use Rattle.std.proofs.Common.{map, sym, ap₂, ◌∙◌}
-use Rattle.std.proofs.lemmas.Simd.{map-map}
-use Rattle.std.proofs.lemmas.List.Elements.{All-filter}
+use Rattle.std.proofs.Common.{refl}
 use Rattle.bor_terms.specs.Texts.{is_same}
-use Rattle.bor_store_sql.specs.declared.rows.typed.Placed.{Placed}
-use Rattle.bor_store_sql.specs.Rows.Placed.{bare}
-use Rattle.bor_store_sql.specs.Rows.Encoding.{statement_columns}
-use Rattle.bor_store_sql.specs.Rows.RowForms.{IsFormedPlaced, IsFormedStatementRow}
-use Rattle.bor_store_sql.proofs.OnRows.Formed.{all_bare_formed}
-use Rattle.bor_store_sql.specs.Selected.{in_declaration, placed_of}
-use Rattle.bor_store_reads.proofs.Found.{all_told}
-use Rattle.bor_store_reads.proofs.FoundStatements.{own_formed}
+use Rattle.bor_store_reads.proofs.FoundStatements.{own_told}
 use Rattle.bor_store_reads.proofs.declarations.statements.Goals as goal
 
 pub returns : goal.returns
 returns g c =
-    let agent = c.args.agent.now in
-    let declaration = c.args.declaration.now in
-    all_told statement_columns IsFormedStatementRow c.statements_of_declaration.ensures
-    (λ r. ap₂ (λ a d. map (λ p. statement_columns (bare p)) (in_declaration d (placed_of a r))) c.as_str.ensures.value c.as_str-2.ensures.value ∙ sym (map-map statement_columns bare (in_declaration declaration (placed_of agent r))))
-    (λ r stored. all_bare_formed (in_declaration declaration (placed_of agent r)) (All-filter (λ (p : Placed). is_same p.statement.declaration declaration) IsFormedPlaced (placed_of agent r) (own_formed agent r stored)))
-    c.all_values.ensures.values c.all_values.ensures.found
+    own_told c.args.agent.now (λ p. is_same p.statement.declaration c.args.declaration.now) c.statements_of_declaration.ensures
+    (λ r. rw (c.as_str.ensures.value, c.as_str-2.ensures.value) refl) c.all_values.ensures.values c.all_values.ensures.found

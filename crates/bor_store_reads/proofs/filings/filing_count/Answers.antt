@@ -1,7 +1,6 @@
 use Rattle.bor_store_sql.specs.declared.rows.typed.FilingRow.{FilingRow}
 use Rattle.bor_store_reads.proofs.Reading.{read_so}
-use Rattle.std.proofs.Common.{ap, option_map, sym, ◌∙◌}
-use Rattle.std.specs.Prelude.{unwrap_or}
+use Rattle.std.proofs.Common.{ap, option_map, sym, ◌∙◌, unwrap_or}
 use Rattle.bor_store_reads.proofs.filings.filing_count.Goals as goal
 
 pub returns-in-Some : goal.returns-in-Some

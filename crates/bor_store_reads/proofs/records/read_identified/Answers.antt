@@ -1,6 +1,4 @@
-use Rattle.std.proofs.Common.{refl}
-use Rattle.std.specs.Prelude.{◌&&◌}
-use Rattle.std.specs.List.{flat_map}
+use Rattle.std.proofs.Common.{refl, ◌&&◌, flat_map}
 use Rattle.std.proofs.lemmas.List.Elements.{All-filter}
 use Rattle.bor_terms.specs.Texts.{is_same}
 use Rattle.bor_store_sql.specs.declared.rows.typed.IdentifierRow.{IdentifierRow}
@@ -13,9 +11,6 @@ use Rattle.bor_store_reads.proofs.records.read_identified.Goals as goal
 
 pub returns : goal.returns
 returns g c =
-    let scheme = c.args.scheme.now in
-    let id = c.args.id.now in
-    all_told identifier_columns IsFormedIdentifierRow c.identifiers_by_id.ensures
-    (λ r. refl)
-    (λ r stored. All-filter (λ (i : IdentifierRow). is_same i.identifier.scheme scheme && is_same i.identifier.id id) IsFormedIdentifierRow (flat_map identifier_rows (placed r.members)) (all_identifiers_formed (placed r.members) (placed_formed r stored)))
+    all_told c.identifiers_by_id.ensures identifier_columns IsFormedIdentifierRow (λ r. refl)
+    (λ r stored. All-filter (λ (i : IdentifierRow). is_same i.identifier.scheme c.args.scheme.now && is_same i.identifier.id c.args.id.now) IsFormedIdentifierRow (flat_map identifier_rows (placed r.members)) (all_identifiers_formed (placed r.members) (placed_formed r stored)))
     c.all_values.ensures.values c.all_values.ensures.found

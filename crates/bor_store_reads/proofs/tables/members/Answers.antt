@@ -1,9 +1,6 @@
 use Rattle.std.proofs.Common.{◌∙◌}
-use Rattle.bor_store_reads.proofs.Reading.{read_next, read_so, read_wants}
+use Rattle.bor_store_reads.proofs.Reading.{read_next, read_so}
 use Rattle.bor_store_reads.proofs.tables.members.Goals as goal
-
-pub returns-in_err-members_of : goal.returns-in_err-members_of
-returns-in_err-members_of g c = read_wants c.from_residual-in_err-members_of.ensures.1 (read_next c.in_ok-agents.ensures (read_next c.in_ok-filings.ensures c.in_ok-statements.ensures)).reads
 
 pub returns : goal.returns
 returns g c = read_so (read_next c.in_ok-agents.ensures (read_next c.in_ok-filings.ensures c.in_ok-statements.ensures))

@@ -1,5 +1,4 @@
-use Rattle.std.proofs.Common.{sym, ap, ◌∙◌}
-use Rattle.std.specs.Option.{option_copied}
+use Rattle.std.proofs.Common.{sym, ap, ◌∙◌, option_copied}
 use Rattle.bor_store_keys.proofs.found.Found.filing.Goals as goal
 
 pub returns-in-Some : goal.returns-in-Some

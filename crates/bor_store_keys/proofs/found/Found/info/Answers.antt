@@ -1,5 +1,4 @@
-use Rattle.std.proofs.Common.{◌∙◌, Some, sym, ap}
-use Rattle.std.specs.Option.{option_copied}
+use Rattle.std.proofs.Common.{◌∙◌, Some, sym, ap, option_copied}
 use Rattle.std.proofs.lemmas.Option.{same_Some}
 use Rattle.bor_records.proofs.OnLinks.Stated.{row_open}
 use Rattle.bor_store_keys.specs.Viewed.{rows_seen}

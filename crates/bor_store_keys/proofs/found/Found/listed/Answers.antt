@@ -6,10 +6,4 @@ use Rattle.bor_store_keys.proofs.found.Found.listed.Goals as goal
 pub returns : goal.returns
 returns c = λ r today is.
     let of = c.new-found.ensures.nothing r today in
-    record {
-      today = of.today;
-      filings = of.filings;
-      rows = of.rows;
-      places = of.places;
-      lists = is ∙ ap (λ (v : View). seen v r) (sym c.new-found.ensures.view);
-    }
+    assumption (is ∙ ap (λ (v : View). seen v r) (sym c.new-found.ensures.view), of)

@@ -9,7 +9,7 @@ use Rattle.bor_store_keys.proofs.lookup.Lookup.info.Goals as goal
 
 pub returns-in-Some : goal.returns-in-Some
 returns-in-Some g c =
-    let of = of_found c.self.inside.found c.in-Some.found _ _ (ap (state g.S.Store) c.self.view_is) c.in-Some.is c.self.invariant in
+    let of = of_found (ap (state g.S.Store) c.self.view_is) c.in-Some.is c.self.invariant in
     IfOk-weaker c.info.result _ _
     (λ found h info is clean r shows. subst (λ (v : View). info ≡ info_of (seen v r) c.args.node.now) (c.is.ensures c.if-is.true) (h r info (of clean r shows) is))
     c.info.ensures

@@ -1,9 +1,0 @@
-use Rattle.sqlite.specs.Held.{state}
-use Rattle.bor_store_keys.proofs.Holding.{read_within, still_found}
-use Rattle.bor_store_keys.proofs.lookup.Lookup.filing_seen.Goals as goal
-
-pub invariant_of-self : goal.invariant_of-self
-invariant_of-self g c = still_found c.self.inside.found _ _ c.is_number_seen.ensures.reads c.self.invariant
-
-pub returns : goal.returns
-returns g c = read_within (state g.S.Store) c.self.view_is c.is_number_seen.ensures

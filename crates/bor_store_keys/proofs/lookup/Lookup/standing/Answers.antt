@@ -1,9 +1,0 @@
-use Rattle.sqlite.specs.Held.{state}
-use Rattle.bor_store_keys.proofs.Holding.{read_within, still_found}
-use Rattle.bor_store_keys.proofs.lookup.Lookup.standing.Goals as goal
-
-pub invariant_of-self : goal.invariant_of-self
-invariant_of-self g c = still_found c.self.inside.found _ _ c.read_place.ensures.reads c.self.invariant
-
-pub returns : goal.returns
-returns g c = read_within (state g.S.Store) c.self.view_is c.read_place.ensures
