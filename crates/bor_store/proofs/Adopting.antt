@@ -1,9 +1,9 @@
 -- The rows that the version's query finds, and that the tables of a register are all there.
-use Rattle.std.proofs.Common.{◌≡◌, ℤ, pos, true, false, List, [], ◌∷◌, codes, Vec, Option, Some, None, Result, Ok, Err, IfOk, OnOk, IsTrue, refl, sym, subst}
-use Rattle.std.specs.declared.alloc.Global.{Global}
+use Rattle.std.proofs.Common.{Bool, true≢false, ap, ◌∙◌, ◌≡◌, ℤ, pos, true, false, List, [], ◌∷◌, Vec, Option, Some, None, Result, Ok, Err, IfOk, OnOk, IsTrue, refl, sym, subst, Global}
+use Rattle.std.proofs.lemmas.Result.{IfOk-weaker}
+use Rattle.sqlite.specs.Schema.{Schema}
 use Rattle.sqlite_tied.specs.Compute.{everything}
 use Rattle.sqlite.specs.declared.types.Value.TheVariants.{Int, Null}
-use Rattle.sqlite.specs.Command.{Command}
 use Rattle.sqlite.specs.Effect.{Database}
 use Rattle.sqlite.specs.Listing.{IsSourceOf, reads_listing, understood}
 use Rattle.sqlite.specs.Order.{Row}
@@ -26,10 +26,10 @@ use Rattle.bor_store_sql.specs.declared.rows.typed.RegisterRow.{RegisterRow}
 use Rattle.bor_store_sql.specs.Found.{IsQuery}
 use Rattle.bor_store_sql.specs.Kept.{Keeps}
 use Rattle.bor_store_sql.specs.Shown.{HasFirst, ShowsFirst, ShowsIn, first_contents}
-use Rattle.bor_store_sql.proofs.Finding.{Shows, answers, has_now}
+use Rattle.bor_store_sql.proofs.Finding.{answers, has_now}
 use Rattle.bor_store_sql.proofs.Picking.{picked_rows}
 use Rattle.bor_store_sql.proofs.Plain.{IsSelectBoth, is_query}
-use Rattle.bor_store.specs.Opening.{is_versioned, has_all, has_first, is_period_used, version_text, AreVersions}
+use Rattle.bor_store.specs.Opening.{is_versioned, has_all, has_first, is_period_used, version_in, version_text, AreVersions}
 
 abbrev version_query : Query
 version_query = table_query 0 ([]) (col 1 2 ∷ []) ([])
@@ -41,31 +41,21 @@ version_is = record { now = record { reads = (_, refl); asks = (_, refl, (refl, 
 pub version_asks : IsQuery version_text
 version_asks = is_query version_is.now
 
--- what the query shows of a state it shows of it whatever it leaves
 module _ (old new : State) where
-  versions_of : (rows : List Row) → Shown version_text [] old new rows → AreVersions old rows
+  -- what the query shows of a state it shows of it whatever it leaves, and it leaves what it was asked of
+  told : (rows : List Row) → Shown version_text [] old new rows → AreVersions old rows × (new.now ≡ old.now)
   unfolding Shown
-  versions_of rows h = (h.0, h.1, go h.0.returning refl h.2)
+  told rows h = let it = go h.0.returning refl h.2 in ((h.0, h.1, it.0), it.1)
     where
-      go : (o : Option Returning) → h.0.returning ≡ o → ShowsRows old new version_text h.0 (timed [] h.0.formats h.1.now) rows o → ShowsRows old old version_text h.0 (timed [] h.0.formats h.1.now) rows o
-      go None e k = (k.0, k.1, k.2, (record { was_open = k.3.0.was_open; is_open = k.3.0.was_open; now_is = refl; committed_is = refl; mode = refl }, record { changes = refl; last_rowid = refl }, refl))
+      go : (o : Option Returning) → h.0.returning ≡ o → ShowsRows old new version_text h.0 (timed [] h.0.formats h.1.now) rows o → ShowsRows old old version_text h.0 (timed [] h.0.formats h.1.now) rows o × (new.now ≡ old.now)
+      go None e k = ((k.0, k.1, k.2, (record { was_open = k.3.0.was_open; is_open = k.3.0.was_open; now_is = refl; committed_is = refl; mode = refl }, record { changes = refl; last_rowid = refl }, refl)), k.3.0.now_is)
       go (Some what) e k = absurd (version_asks old.now.schema (subst Returns (sym h.1.is) (rw e refl)))
 
   pub versions_told : (result : Result (Vec Row Global) Error) → IfOk result (λ rows. Shown version_text [] old new rows.items) → IfOk result (λ rows. AreVersions old rows.items)
-  versions_told (Ok rows) h = versions_of rows.items h
-  versions_told (Err error) h = tt
-
-  -- the query leaves what it was asked of
-  left_same : (rows : List Row) → Shown version_text [] old new rows → new.now ≡ old.now
-  unfolding Shown
-  left_same rows h = go h.0.returning refl h.2
-    where
-      go : (o : Option Returning) → h.0.returning ≡ o → ShowsRows old new version_text h.0 (timed [] h.0.formats h.1.now) rows o → new.now ≡ old.now
-      go None e k = k.3.0.now_is
-      go (Some what) e k = absurd (version_asks old.now.schema (subst Returns (sym h.1.is) (rw e refl)))
+  versions_told result = IfOk-weaker result (λ rows. Shown version_text [] old new rows.items) (λ rows. AreVersions old rows.items) (λ rows h. (told rows.items h).0)
 
   pub versions_left : (result : Result (Vec Row Global) Error) → IfOk result (λ rows. Shown version_text [] old new rows.items) → OnOk result (new.now ≡ old.now)
-  versions_left (Ok rows) h = left_same rows.items h
+  versions_left (Ok rows) h = (told rows.items h).1
   versions_left (Err error) h = tt
 
 -- a connection that is open and shows the same has the same versions
@@ -96,16 +86,16 @@ picked version row old rows kept answer =
     picked_rows 0 refl version_query.filter [] version_query.project version_query.order (λ id x. refl) (versioned_columns version) (λ r. Int version ∷ []) (λ x. true) (λ x. refl) (row ∷ []) old.now.trees (versioned_columns version row ∷ []) rows refl
     kept (λ id x. refl) (λ x. refl) answer (λ a b. ⊥) (λ a b lt. absurd lt) (tt, tt)
 
-module _ (r : Register) (old new : State) (rows : List Row) where
-  pub version_found : ShowsIn r old → Shows version_text [] old new rows → rows ≡ (Int (pos 2) ∷ []) ∷ []
-  version_found shows h = picked (pos 2) (register_row r) old rows (has_now r old new shows h.0).register (answers r old new shows h.0 version_text [] version_query version_is.now.asks rows h.1)
+module _ {r : Register} {s : State} {rows given : List Row} where
+  pub version_found : ShowsIn r s → s.now ≡ s.committed → AreVersions s rows → given ≡ rows → version_in given ≡ Some (pos 2)
+  version_found shows settled versions same = ap version_in (same ∙ picked (pos 2) (register_row r) s rows (has_now r s s shows settled).register (answers r s s shows settled version_text [] version_query version_is.now.asks rows versions))
 
   -- version 1
-  pub first_found : ShowsFirst r old → Shows version_text [] old new rows → rows ≡ (Int (pos 1) ∷ []) ∷ []
-  first_found shows h =
-      let has = subst (HasFirst (first_contents r)) (sym h.0) shows.has in
-      picked (pos 1) (register_row r) old rows has.register
-      ((reads_as version_text [] old new first_schema has.schema (shows_rows version_query version_is.first.0) version_is.first.1 version_is.first.2 version_is.first.3 rows h.1).answer Null)
+  pub first_found : ShowsFirst r s → s.now ≡ s.committed → AreVersions s rows → given ≡ rows → version_in given ≡ Some (pos 1)
+  first_found shows settled versions same =
+      let has = subst (HasFirst (first_contents r)) (sym settled) shows.has in
+      ap version_in (same ∙ picked (pos 1) (register_row r) s rows has.register
+      ((reads_as version_text [] s s first_schema has.schema (shows_rows version_query version_is.first.0) version_is.first.1 version_is.first.2 version_is.first.3 rows versions).answer Null))
 
 -- ---- which tables there are
 
@@ -128,3 +118,10 @@ first_has_first = refl
 pub first_is_free : is_period_used first_schema ≡ false
 unfolding same_name
 first_is_free = refl
+
+pub schema_is : {now committed : Database} {schema : Schema} → now ≡ committed → committed.schema ≡ schema → now.schema ≡ schema
+schema_is settled has = ap (λ (db : Database). db.schema) settled ∙ has
+
+-- tables that have the columns of a version are not refused for want of them
+pub not_versioned : {P : Type 0} {now committed : Database} {schema given : Schema} {is : Bool} → is_versioned schema ≡ true → now ≡ committed → committed.schema ≡ schema → given ≡ now.schema → is ≡ is_versioned given → is ≡ false → P
+not_versioned versioned settled has same said isnt = absurd (true≢false (sym versioned ∙ ap is_versioned (sym (same ∙ schema_is settled has)) ∙ sym said ∙ isnt))

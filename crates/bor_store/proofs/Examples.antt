@@ -1,6 +1,5 @@
 -- A register of one agent to which requests lead from a new one: it is stored. One whose first filing has the number 2 isn't.
-use Rattle.std.proofs.Common.{◌≡◌, ◌<◌, pos, true, false, true≢false, [], ◌∷◌, codes, refl, sym, arith}
-use Rattle.std.specs.Prelude.{All}
+use Rattle.std.proofs.Common.{◌≡◌, ◌<◌, pos, true, false, true≢false, [], ◌∷◌, codes, refl, sym, arith, All}
 use Rattle.std.proofs.lemmas.Int.{ints}
 use Rattle.std.proofs.lemmas.List.Elements.{All-nil, All-cons}
 use Rattle.bor_terms.specs.Day.{IsDay}

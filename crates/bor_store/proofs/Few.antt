@@ -1,6 +1,5 @@
 -- The statements that a file is read to are few, and so are their interests and identifiers.
-use Rattle.std.proofs.Common.{◌≡◌, ◌≤◌, ◌==◌, ℕ, false, nat_le, nat_lt, List, [], ◌∷◌, length, map, filter_map, Option, Some, None, refl, arith, leb-true}
-use Rattle.std.specs.Prelude.{All, IfOk, unwrap_or, option_and_then}
+use Rattle.std.proofs.Common.{◌≡◌, ◌≤◌, ◌==◌, ℕ, false, nat_le, nat_lt, List, [], ◌∷◌, length, map, filter_map, Option, Some, None, refl, arith, leb-true, All, IfOk, unwrap_or, option_and_then}
 use Rattle.std.specs.List.{cons_option}
 use Rattle.std.proofs.lemmas.Bool.{cond_both, ltb-false}
 use Rattle.std.proofs.lemmas.List.{length-map}
@@ -44,15 +43,13 @@ fewer {X} {Y} f (x ∷ xs) = go (f x) (filter_map f xs) (fewer f xs)
 
 few_interests : (kind : RecordType) (d : Data) → length (interests_in (details_of kind d)) ≤ items_limit
 unfolding entity_of person_of relationship_of interests_of
-few_interests types.Entity d = omega arith
-few_interests types.Person d = omega arith
 few_interests types.Relationship d = let few = few_items fields.Interests d in let same = length-map (array_items fields.Interests d) interest_of in omega (arith, few, same)
+few_interests kind d = omega arith
 
 few_identifiers : (kind : RecordType) (d : Data) → length (identifiers_in (details_of kind d)) ≤ items_limit
 unfolding entity_of person_of relationship_of identifiers_of
 few_identifiers types.Entity d = let few = few_items fields.Identifiers d in let less = fewer identifier_in (array_items fields.Identifiers d) in omega (arith, few, less)
-few_identifiers types.Person d = omega arith
-few_identifiers types.Relationship d = omega arith
+few_identifiers kind d = omega arith
 
 statement_few : (d : Data) → HasFew (statement_of d)
 unfolding statement_of

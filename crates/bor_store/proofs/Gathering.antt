@@ -1,26 +1,13 @@
 -- The days of interests, gathered one by one.
-use Rattle.std.proofs.Common.{◌≡◌, ◌+◌, ◌<◌, ℕ, zero, suc, true, false, List, [], ◌∷◌, ◌++◌, take, length, get_or, append_assoc, append-nil, refl, sym, ap, ap₂, ◌∙◌, arith}
-use Rattle.std.specs.Prelude.{is_some, ◌||◌}
-use Rattle.std.specs.List.{flat_map}
+use Rattle.std.proofs.Common.{◌≡◌, ◌+◌, ◌<◌, ℕ, zero, suc, List, [], ◌∷◌, ◌++◌, take, length, get_or, append_assoc, append-nil, refl, sym, ap, ap₂, ◌∙◌, arith, flat_map}
 use Rattle.bods_read.specs.declared.interest.Interest.{Interest}
 use Rattle.bods_read.specs.declared.statement.Statement.{Statement}
-use Rattle.bor_store_sql.specs.Rows.Placed.{interest_rows, interests_from, period_of, period_rows, placed_from}
+use Rattle.bor_store_sql.specs.Rows.Placed.{interest_rows, interests_from, period_rows, placed_from}
 use Rattle.bor_store_sql.specs.declared.rows.places.At.{At}
 use Rattle.bor_store_sql.specs.declared.rows.typed.InterestRow.{InterestRow}
 use Rattle.bor_store_sql.specs.declared.rows.typed.PeriodRow.{PeriodRow}
 use Rattle.bor_store_sql.specs.Fitting.{standing}
-use Rattle.bor_store_sql.proofs.Lists.{said_none, said_one}
 use Rattle.bor_store.specs.Migrating.{interest_days}
-
--- ---- one interest
-
-module _ (i : InterestRow) where
-  -- it has a row where one of its days is said
-  pub one_row : (is_some i.interest.starts || is_some i.interest.ends) ≡ true → period_rows i ≡ period_of i ∷ []
-  one_row e = said_one i i.interest.starts i.interest.ends e
-
-  pub no_row : (is_some i.interest.starts || is_some i.interest.ends) ≡ false → period_rows i ≡ []
-  no_row e = said_none i i.interest.starts i.interest.ends e
 
 -- ---- one after the other
 

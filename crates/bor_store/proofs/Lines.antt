@@ -1,27 +1,28 @@
--- The days that are gathered line by line are those that the files of a register's live filings say.
-use Rattle.std.proofs.Common.{◌≡◌, ◌↔◌, ◌+◌, ◌<◌, ◌≤◌, ℕ, Bool, true, false, List, [], ◌∷◌, ◌++◌, map, take, drop, length, get_or, slice_get, Some, Vec, Result, Ok, Err, append_assoc, append-nil, refl, sym, ap, ap₂, subst, ◌∙◌, arith, Option}
+-- The days that are gathered of a file, and line by line: those that the files of a register's live filings say.
+use Rattle.std.proofs.Common.{◌≡◌, ◌↔◌, ◌+◌, ◌<◌, ℕ, Bool, true, false, List, [], ◌∷◌, ◌++◌, map, take, drop, length, get_or, slice_get, Some, Vec, Result, Ok, Err, append_assoc, append-nil, refl, sym, ap, ap₂, subst, ◌∙◌, Option, Global, None, option_map, OnOk, IfErr}
 use Rattle.std.specs.List.{AllByRecursion}
-use Rattle.std.specs.declared.alloc.Global.{Global}
 use Rattle.std.proofs.lemmas.List.{take_more, drop_more, take-append-drop}
-use Rattle.sqlite_keyed.proofs.ListLemmas.{all_weaker}
 use Rattle.bods_read.specs.File.{reading}
-use Rattle.bods_read.specs.declared.fault.FileFault.{FileFault}
 use Rattle.bods_read.specs.declared.statement.Statement.{Statement}
 use Rattle.bor_terms.specs.Texts.{is_same}
 use Rattle.bor_terms.proofs.Texts.{same_refl, same_sym}
 use Rattle.bor_register.specs.Register.{IsOrdered, filings_of}
 use Rattle.bor_register.specs.declared.filing.AcceptedFiling.{AcceptedFiling}
 use Rattle.bor_register.specs.declared.member.Member.{Member}
-use Rattle.bor_store_sql.proofs.OnRows.Numbers.{same_number, before_number}
 use Rattle.bor_store_sql.specs.Rows.Placed.{filing_lines, filing_row, placed_from}
-use Rattle.bor_store_sql.specs.Rows.Stored.{AllNumbered, AreNumbered}
+use Rattle.bor_store_sql.specs.Rows.Stored.{AllNumbered}
 use Rattle.bor_store_sql.specs.declared.rows.typed.FilingRow.{FilingRow}
 use Rattle.bor_store_sql.specs.declared.rows.typed.PeriodRow.{PeriodRow}
 use Rattle.bor_store_sql.specs.Selected.{numbered}
 use Rattle.bor_store_sql.proofs.Members.{apart_names}
 use Rattle.bor_store_reads.specs.declared.fault.ReadError.{ReadError}
-use Rattle.bor_store.specs.Migrating.{FileSays, FilesSay, FilingSays, FoundSays, GathersAll, LineSays, LinesSay, OwnSay, UnlessWithdrawn, interest_days, filed_at}
-use Rattle.bor_store_sql.proofs.OnRows.Each.{none_numbered}
+use Rattle.bor_store_reads.proofs.FoundStatements.{IsNumbered, each_numbered}
+use Rattle.bor_store.specs.Migrating.{FileSays, FilesSay, FilingSays, FoundSays, GathersAll, LineSays, LinesSay, OwnSay, UnlessWithdrawn, interest_days, filed_at, Gathers}
+use Rattle.bor_register.specs.Publication.{filing_shown}
+use Rattle.bor_register.specs.declared.filing.Filing.{Filing}
+use Rattle.bor_store_sql.specs.Fitting.{Fit}
+use Rattle.bor_store_reads.specs.Answering.{IsNoDamage}
+use Rattle.bor_store_reads.specs.declared.fault.ReadError.TheVariants as errors
 
 -- ---- one line after the other
 
@@ -53,23 +54,6 @@ module _ (ms : List Member) where
 
 -- ---- the filing of a line
 
--- the filing is the one of its number
-abbrev IsFound : List AcceptedFiling → AcceptedFiling → Type 0
-IsFound whole f = numbered f.number whole ≡ f ∷ []
-
-record IsAlone (whole : List AcceptedFiling) (low : ℕ) (f : AcceptedFiling) : Type 0 where
-  pub found : IsFound whole f
-  pub from : low ≤ f.number
-
-each_alone : (n : ℕ) (fs : List AcceptedFiling) → AreNumbered n fs → AllByRecursion (IsAlone fs n) fs
-each_alone n [] h = tt
-each_alone n (f ∷ fs) h =
-    let is = h.0 in (
-      record { found = rw (same_number f.number) (ap (λ l. f ∷ l) (none_numbered f.number (n + 1) fs (omega (arith, is)) h.1)); from = omega (arith, is) },
-      all_weaker (IsAlone fs (n + 1)) (IsAlone (f ∷ fs) n)
-          (λ g k. let low = k.from in record { found = rw (before_number f.number g.number (omega (arith, is, low))) k.found; from = omega (arith, low) }) fs (each_alone (n + 1) fs h.1),
-    )
-
 -- each agent's filings are found by its name
 own_beside : (m : Member) (ms rest : List Member) → AllByRecursion (λ (o : Member). is_same o.name m.name ≡ false) rest → AllByRecursion (λ (o : Member). filings_of o.name ms ≡ o.filings) rest
     → AllByRecursion (λ (o : Member). filings_of o.name (m ∷ ms) ≡ o.filings) rest
@@ -82,10 +66,10 @@ all_own (m ∷ ms) up = (rw (same_refl m.name) refl, own_beside m ms ms (apart_n
 
 module _ (whole : List Member) where
   module _ (agent : List ℕ) (own : List AcceptedFiling) (mine : filings_of agent whole ≡ own) where
-    found_at : (n : ℕ) (f : AcceptedFiling) → IsAlone own n f → filed_at agent f.number whole ≡ Some f
+    found_at : (n : ℕ) (f : AcceptedFiling) → IsNumbered own n f → filed_at agent f.number whole ≡ Some f
     found_at n f h = ap (λ fs. slice_get (numbered f.number fs) 0) mine ∙ ap (λ fs. slice_get fs 0) h.found
 
-    own_say : (n : ℕ) (fs : List AcceptedFiling) → AllByRecursion (IsAlone own n) fs → (days : List PeriodRow) → LinesSay whole (map (filing_row agent) fs) days ↔ OwnSay agent fs days
+    own_say : (n : ℕ) (fs : List AcceptedFiling) → AllByRecursion (IsNumbered own n) fs → (days : List PeriodRow) → LinesSay whole (map (filing_row agent) fs) days ↔ OwnSay agent fs days
     own_say n [] alone days = (λ h. h, λ h. h)
     own_say n (f ∷ fs) alone days =
         let Says : Option AcceptedFiling → List PeriodRow → Type 0 = λ o ps. UnlessWithdrawn f.withdrawn (FoundSays agent f.number o) ps in
@@ -97,7 +81,7 @@ module _ (whole : List Member) where
   all_say : (ms : List Member) → AllByRecursion (λ (m : Member). filings_of m.name whole ≡ m.filings) ms → AllNumbered ms → (days : List PeriodRow) → LinesSay whole (filing_lines ms) days ↔ FilesSay ms days
   all_say [] own numbers days = (λ h. h, λ h. h)
   all_say (m ∷ ms) own numbers days =
-      let first : (ps : List PeriodRow) → LinesSay whole (map (filing_row m.name) m.filings) ps ↔ OwnSay m.name m.filings ps = own_say m.name m.filings own.0 1 m.filings (each_alone 1 m.filings numbers.0) in
+      let first : (ps : List PeriodRow) → LinesSay whole (map (filing_row m.name) m.filings) ps ↔ OwnSay m.name m.filings ps = own_say m.name m.filings own.0 1 m.filings (each_numbered 1 m.filings numbers.0) in
       let rest = all_say ms own.1 numbers.1 in (
         λ h.
             let parts = lines_split whole (map (filing_row m.name) m.filings) (filing_lines ms) days h in
@@ -113,7 +97,7 @@ lines_say ms up numbers = all_say ms ms (all_own ms up) numbers
 
 -- ---- they say one thing alone
 
-pub read_once : (r : Result (List Statement) FileFault) (a b : List Statement) → r ≡ Ok a → r ≡ Ok b → a ≡ b
+pub read_once : {E : Type 0} (r : Result (List Statement) E) (a b : List Statement) → r ≡ Ok a → r ≡ Ok b → a ≡ b
 read_once r a b h k = cc
 
 file_once : (agent : List ℕ) (number : ℕ) (f : AcceptedFiling) (ps qs : List PeriodRow) → FileSays agent number f ps → FileSays agent number f qs → ps ≡ qs
@@ -140,3 +124,31 @@ files_once (m ∷ ms) ps qs h k = h.4 ∙ ap₂ (λ x y. x ++ y) (own_once m.nam
 pub gathered_all : (ms : List Member) → IsOrdered ms → AllNumbered ms → (result : Result (Vec PeriodRow Global) ReadError) → GathersAll (LinesSay ms (filing_lines ms)) result → GathersAll (FilesSay ms) result
 gathered_all ms up numbers (Ok days) h = (lines_say ms up numbers days.items).0 h
 gathered_all ms up numbers (Err error) h = λ damaged days says. h damaged days ((lines_say ms up numbers days).1 says)
+
+-- ---- one file
+
+module _ (agent : List ℕ) (number : ℕ) (f : AcceptedFiling) (bytes : List ℕ) (same : f.bytes ≡ bytes) (before after : List PeriodRow) where
+  -- where what it is read to doesn't fit it says nothing either
+  pub misfit : (X : Type 0) (said : List Statement) → reading bytes ≡ Ok said → (Fit agent number 1 said f.statements → ⊥) → Gathers {X = X} (FileSays agent number f) before after (Err errors.Damaged)
+  misfit X said read none = λ damaged days says. none (subst (λ ss. Fit agent number 1 ss f.statements) (read_once (reading f.bytes) says.said said says.read (ap reading same ∙ read)) says.fit)
+
+  -- the days of what it is read to are added
+  pub file_added : {X : Type 0} (said : List Statement) (result : Result X ReadError) → reading bytes ≡ Ok said → Fit agent number 1 said f.statements → OnOk result (after ≡ before ++ interest_days (placed_from agent number 1 said)) → IfErr result IsNoDamage
+      → Gathers (FileSays agent number f) before after result
+  file_added said (Ok x) read fit added failed = (interest_days (placed_from agent number 1 said), record { said = said; read = ap reading same ∙ read; fit = fit; are = refl }, added)
+  file_added said (Err error) read fit added failed = λ damaged days says. failed damaged
+
+-- ---- one line
+
+module _ (ms : List Member) (l : FilingRow) where
+  module _ {X : Type 0} (before after : List PeriodRow) (result : Result X ReadError) (live : l.withdrawn ≡ false) where
+    of_found : Gathers (FoundSays l.agent l.number (filed_at l.agent l.number ms)) before after result → Gathers (LineSays ms l) before after result
+    of_found h = subst (λ b. Gathers (UnlessWithdrawn b (FoundSays l.agent l.number (filed_at l.agent l.number ms))) before after result) (sym live) h
+
+    pub live_gathered : (file : Filing) → Some file ≡ option_map filing_shown (filed_at l.agent l.number ms)
+        → ((f : AcceptedFiling) → filed_at l.agent l.number ms ≡ Some f → f.bytes ≡ file.bytes → Gathers (FileSays l.agent l.number f) before after result) → Gathers (LineSays ms l) before after result
+    live_gathered file found h = of_found (go (filed_at l.agent l.number ms) refl found)
+      where
+        go : (o : Option AcceptedFiling) → filed_at l.agent l.number ms ≡ o → Some file ≡ option_map filing_shown o → Gathers (FoundSays l.agent l.number o) before after result
+        go None at e = absurd cc
+        go (Some f) at e = let is : file ≡ filing_shown f = cc in h f at (sym (ap (λ (x : Filing). x.bytes) is))

@@ -1,7 +1,6 @@
 -- The statements that are kept of a filing are its own: no other filing of its agent has its number.
-use Rattle.std.proofs.Common.{◌≡◌, ◌⊎◌, inl, inr, ◌+◌, ◌==◌, ℕ, Bool, true, false, cond, List, [], ◌∷◌, append-nil, slice_get, Some, None, refl, sym, ap, subst, ◌∙◌, arith}
-use Rattle.std.specs.Prelude.{◌↔◌, IsTrue}
-use Rattle.std.specs.List.{flat_map}
+use Rattle.std.proofs.Common.{◌≡◌, ◌⊎◌, inl, inr, ◌+◌, ◌==◌, ℕ, Bool, true, false, cond, List, [], ◌∷◌, append-nil, slice_get, Some, refl, sym, ap, subst, ◌∙◌, arith, ◌↔◌, IsTrue, flat_map}
+use Rattle.std.proofs.lemmas.Option.{none-some, same_Some}
 use Rattle.bods_read.specs.declared.statement.Statement.{Statement}
 use Rattle.bor_register.specs.Register.{Register, filings_of}
 use Rattle.bor_register.specs.declared.filing.AcceptedFiling.{AcceptedFiling}
@@ -29,18 +28,12 @@ one_numbered number n (f ∷ fs) h = go (f.number == number) refl (one_numbered 
     go false e more = more
 
 pub kept_is : (agent : List ℕ) (number : ℕ) (r : Register) (f : AcceptedFiling) → AllNumbered r.members → filed_at agent number r.members ≡ Some f → statements_kept agent number r ≡ f.statements
-kept_is agent number r f numbers found = go (numbered number (filings_of agent r.members)) refl (one_numbered number 1 (filings_of agent r.members) (numbered_of agent r.members numbers))
-  where
-    go : (fs : List AcceptedFiling) → numbered number (filings_of agent r.members) ≡ fs → IsAtMost fs → statements_kept agent number r ≡ f.statements
-    go fs e (inl none) =
-        let at : slice_get (numbered number (filings_of agent r.members)) 0 ≡ slice_get [] 0 = ap (λ l. slice_get l 0) (e ∙ none) in
-        let no : None ≡ Some f = sym at ∙ found in
-        absurd cc
-    go fs e (inr one) =
-        let at : slice_get (numbered number (filings_of agent r.members)) 0 ≡ Some one.0 = ap (λ l. slice_get l 0) (e ∙ one.1) in
-        let some : Some one.0 ≡ Some f = sym at ∙ found in
-        let is : one.0 ≡ f = cc in
-        ap (flat_map (λ (g : AcceptedFiling). g.statements)) (e ∙ one.1) ∙ append-nil one.0.statements ∙ ap (λ (g : AcceptedFiling). g.statements) is
+kept_is agent number r f numbers found = elim (one_numbered number 1 (filings_of agent r.members) (numbered_of agent r.members numbers)) [
+  | inl none ↦ absurd (none-some f (sym (ap (λ (l : List AcceptedFiling). slice_get l 0) none) ∙ found))
+  | inr one ↦
+      let is : one.0 ≡ f = same_Some one.0 f (sym (ap (λ (l : List AcceptedFiling). slice_get l 0) one.1) ∙ found) in
+      ap (flat_map (λ (g : AcceptedFiling). g.statements)) one.1 ∙ append-nil one.0.statements ∙ ap (λ (g : AcceptedFiling). g.statements) is
+]
 
 -- whether the statements of a filing fit those that are kept of it, asked by the names that a call is given
 pub fits_so : (agent name : List ℕ) (number : ℕ) (r : Register) (f : AcceptedFiling) (said given : List Statement) (b : Bool) → name ≡ agent → given ≡ said → IsStored r → filed_at agent number r.members ≡ Some f

@@ -13,7 +13,7 @@ use Rattle.bor_store_sql.specs.Found.{ReadsOnly}
 use Rattle.bor_store.specs.Tables.{of_tables}
 use Rattle.bor_store.specs.Migrating.{FilesSay}
 use Rattle.bor_store.proofs.Either.{still_first}
-use Rattle.bor_store.proofs.Legals.{files_say}
+use Rattle.bor_store.proofs.Stored.{files_say}
 use Rattle.bor_store.proofs.Lines.{files_once}
 
 -- where nothing was changed

@@ -82,7 +82,7 @@ fn fault_of(error: Error) -> StoreFault
     }
 }
 
-#[tactic(auto, using(bor_store_reads::proofs::Found::still_shows, crate::proofs::Kept::still_kept, crate::proofs::Lasting::lasts_told, crate::proofs::Lasting::up_told, crate::proofs::Undamaged::undamaged_told))]
+#[tactic(auto, using(bor_store_reads::proofs::Found::still_shows, crate::proofs::Telling::still_kept, crate::proofs::Telling::lasts_told, crate::proofs::Telling::up_told, crate::proofs::Telling::undamaged_told))]
 impl<S: Alter + Drop> Keep for SqlKeep<S> {
     ghost Left = { Trees };
 
@@ -293,7 +293,7 @@ impl<S: Alter + Drop> Keep for SqlKeep<S> {
         (sym (S.settled k.conn.store trees clean.1 may)) (shows.has, shows.stored) };
 }
 
-#[tactic(auto, using(bor_store_reads::proofs::Found::still_shows, crate::proofs::Kept::still_kept, crate::proofs::Lasting::lasts_told, crate::proofs::Lasting::up_told, crate::proofs::Undamaged::undamaged_told))]
+#[tactic(auto, using(bor_store_reads::proofs::Found::still_shows, crate::proofs::Telling::still_kept, crate::proofs::Telling::lasts_told, crate::proofs::Telling::up_told, crate::proofs::Telling::undamaged_told))]
 impl<S: Alter + Drop> MirrorStore for SqlKeep<S> {
     fn whole(&mut self, most: u32) -> Result<Option<ListKeep>, StoreFault> {
         let answer = read_whole(self.conn.connection(), self.alloc, most);

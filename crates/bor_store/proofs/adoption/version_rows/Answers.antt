@@ -1,5 +1,4 @@
-use Rattle.std.proofs.Common.{◌≡◌, List, Vec, [], false, sym, ◌∙◌, rules}
-use Rattle.std.specs.declared.alloc.Global.{Global}
+use Rattle.std.proofs.Common.{◌≡◌, List, Vec, [], false, sym, ◌∙◌, rules, Global}
 use Rattle.sqlite.specs.Order.{Row}
 use Rattle.sqlite.specs.Held.{state}
 use Rattle.sqlite.specs.State.{HasCleanDisk}

@@ -1,5 +1,4 @@
-use Rattle.std.proofs.Common.{◌≡◌, ◌<◌, ◌^◌, ◌++◌, take}
-use Rattle.std.specs.List.{flat_map}
+use Rattle.std.proofs.Common.{◌≡◌, ◌<◌, ◌^◌, ◌++◌, take, flat_map}
 use Rattle.bor_store_sql.specs.Rows.Placed.{interests_from, period_rows}
 use Rattle.bor_store.proofs.days.add_statement.Given as goal
 

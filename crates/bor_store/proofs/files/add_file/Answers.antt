@@ -2,7 +2,7 @@ use Rattle.std.proofs.Common.{◌≡◌, ◌++◌, true≢false, OnOk, sym, subs
 use Rattle.bor_store_sql.specs.Rows.Placed.{placed_from}
 use Rattle.bor_store.specs.Migrating.{interest_days}
 use Rattle.bor_store.proofs.Owned.{fits_so}
-use Rattle.bor_store.proofs.Saying.{file_added, misfit}
+use Rattle.bor_store.proofs.Lines.{file_added, misfit}
 use Rattle.bor_store.proofs.files.add_file.Goals as goal
 
 pub returns-then-not-fits-clause-gathered : goal.returns-then-not-fits-clause-gathered

@@ -1,7 +1,7 @@
 use Rattle.std.proofs.Common.{sym, ◌∙◌}
 use Rattle.sqlite.specs.Held.{state}
 use Rattle.bor_store.proofs.Either.{still_lists}
-use Rattle.bor_store.proofs.Saying.{live_gathered}
+use Rattle.bor_store.proofs.Lines.{live_gathered}
 use Rattle.bor_store.proofs.files.add_line.Goals as goal
 
 pub returns-in-Some-clause-gathered : goal.returns-in-Some-clause-gathered

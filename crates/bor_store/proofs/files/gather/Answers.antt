@@ -4,7 +4,7 @@ use Rattle.sqlite.specs.Held.{state}
 use Rattle.bor_store_sql.proofs.Finding.{read_on}
 use Rattle.bor_store.proofs.Either.{still_lists}
 use Rattle.bor_store.proofs.Lines.{line_gathered, line_failed}
-use Rattle.bor_store.proofs.Moving.{failed_so}
+use Rattle.bor_store.proofs.Judging.{failed_so}
 use Rattle.bor_store.specs.Migrating.{LineSays, LinesSay}
 use Rattle.bor_store.proofs.files.gather.Goals as goal
 

@@ -1,35 +1,24 @@
-use Rattle.std.proofs.Common.{◌≡◌, ◌∙◌, Some, pos, true, false, true≢false, codes, sym, ap}
+use Rattle.std.proofs.Common.{◌≡◌, ◌∙◌, true, false, codes, sym, ap}
 use Rattle.sqlite.specs.Held.{state}
-use Rattle.bor_store_sql.specs.Texts.Tables.{first_schema, keep_schema}
-use Rattle.bor_store.specs.Opening.{has_all, has_first, is_used, is_versioned, version_in}
-use Rattle.bor_store.proofs.Adopting.{first_found, first_has_first, first_is_free, first_is_versioned, keep_has_all, keep_is_versioned, version_found}
-use Rattle.bor_store.proofs.Moving.{first_told, second_told, taken_told, version_judged}
+use Rattle.bor_store.specs.Opening.{has_all, has_first, is_used, version_in}
+use Rattle.bor_store.proofs.Adopting.{first_found, first_has_first, first_is_free, first_is_versioned, keep_has_all, keep_is_versioned, not_versioned, schema_is, version_found}
+use Rattle.bor_store.proofs.Judging.{first_told, second_told, taken_told, version_judged}
 use Rattle.bor_store.proofs.migration.is_first.Goals as goal
 
 pub returns-then-not-is_versioned-clause-first : goal.returns-then-not-is_versioned-clause-first
-returns-then-not-is_versioned-clause-first g c clean r shows =
-    let was = state g.S.Store c.args.conn.now in
-    let schema : was.now.schema ≡ first_schema = ap (λ db. db.schema) (c.is_autocommit.ensures.settled c.if-not-is_autocommit.false clean.1) ∙ shows.has.schema in
-    let yes : is_versioned was.now.schema ≡ true = ap is_versioned schema ∙ first_is_versioned in
-    absurd (true≢false (sym yes ∙ ap is_versioned (sym c.schema.ensures.value) ∙ sym c.is_versioned.ensures ∙ c.if-not-is_versioned.true))
+returns-then-not-is_versioned-clause-first g c clean r shows = not_versioned first_is_versioned (c.is_autocommit.ensures.settled c.if-not-is_autocommit.false clean.1) shows.has.schema c.schema.ensures.value c.is_versioned.ensures c.if-not-is_versioned.true
 
 pub returns-then-not-is_versioned-clause-second : goal.returns-then-not-is_versioned-clause-second
-returns-then-not-is_versioned-clause-second g c clean r shows =
-    let was = state g.S.Store c.args.conn.now in
-    let schema : was.now.schema ≡ keep_schema = ap (λ db. db.schema) (c.is_autocommit.ensures.settled c.if-not-is_autocommit.false clean.1) ∙ shows.has.schema in
-    let yes : is_versioned was.now.schema ≡ true = ap is_versioned schema ∙ keep_is_versioned in
-    absurd (true≢false (sym yes ∙ ap is_versioned (sym c.schema.ensures.value) ∙ sym c.is_versioned.ensures ∙ c.if-not-is_versioned.true))
+returns-then-not-is_versioned-clause-second g c clean r shows = not_versioned keep_is_versioned (c.is_autocommit.ensures.settled c.if-not-is_autocommit.false clean.1) shows.has.schema c.schema.ensures.value c.is_versioned.ensures c.if-not-is_versioned.true
 
 pub returns-clause-taken : goal.returns-clause-taken
 returns-clause-taken g c taken =
-    let was = state g.S.Store c.args.conn.now in
     let used = taken_told _ _ _ _ c.version_told.result c.version_told.ensures taken in
     sym (c.is_used-used.ensures ∙ ap (λ s. is_used s (codes "period")) c.schema-3.ensures.value) ∙ used
 
 pub returns-clause-judged : goal.returns-clause-judged
 returns-clause-judged g c clean =
-    let was = state g.S.Store c.args.conn.now in
-    version_judged was c.version_told.result c.in_ok-rows.rows.items c.has_first-first.result c.is_used-used.result c.has_all-second.result (c.in_ok-rows.ensures.versions clean)
+    version_judged (state g.S.Store c.args.conn.now) c.version_told.result c.in_ok-rows.rows.items c.has_first-first.result c.is_used-used.result c.has_all-second.result (c.in_ok-rows.ensures.versions clean)
     (c.has_first-first.ensures ∙ ap has_first c.schema-2.ensures.value)
     (c.is_used-used.ensures ∙ ap (λ s. is_used s (codes "period")) c.schema-3.ensures.value)
     (c.has_all-second.ensures ∙ ap has_all c.schema-4.ensures.value)
@@ -37,23 +26,17 @@ returns-clause-judged g c clean =
 
 pub returns-clause-first : goal.returns-clause-first
 returns-clause-first g c clean r shows =
-    let was = state g.S.Store c.args.conn.now in
-    let began = c.in_ok-rows.ensures.asked.reads.began clean in
-    let settled = c.is_autocommit.ensures.settled c.if-not-is_autocommit.false began.1 in
-    let found = first_found r was was c.in_ok-rows.rows.items shows (settled, c.in_ok-rows.ensures.versions clean.0) in
-    let version : version_in c.as_slice.result.now ≡ Some (pos 1) = ap version_in (c.as_slice.ensures.value ∙ found) in
-    let schema : was.now.schema ≡ first_schema = ap (λ db. db.schema) settled ∙ shows.has.schema in
+    let settled = c.is_autocommit.ensures.settled c.if-not-is_autocommit.false (c.in_ok-rows.ensures.asked.reads.began clean).1 in
+    let schema = schema_is settled shows.has.schema in
     let whole : c.has_first-first.result ≡ true = c.has_first-first.ensures ∙ ap has_first (c.schema-2.ensures.value ∙ schema) ∙ first_has_first in
     let free : c.is_used-used.result ≡ false = c.is_used-used.ensures ∙ ap (λ s. is_used s (codes "period")) (c.schema-3.ensures.value ∙ schema) ∙ first_is_free in
-    first_told (version_in c.as_slice.result.now) c.has_first-first.result c.is_used-used.result c.has_all-second.result c.version_told.result c.version_told.ensures version whole free
+    first_told (version_in c.as_slice.result.now) c.has_first-first.result c.is_used-used.result c.has_all-second.result c.version_told.result c.version_told.ensures
+    (first_found shows settled (c.in_ok-rows.ensures.versions clean.0) c.as_slice.ensures.value) whole free
 
 pub returns-clause-second : goal.returns-clause-second
 returns-clause-second g c clean r shows =
-    let was = state g.S.Store c.args.conn.now in
-    let began = c.in_ok-rows.ensures.asked.reads.began clean in
-    let settled = c.is_autocommit.ensures.settled c.if-not-is_autocommit.false began.1 in
-    let found = version_found r was was c.in_ok-rows.rows.items shows (settled, c.in_ok-rows.ensures.versions clean.0) in
-    let version : version_in c.as_slice.result.now ≡ Some (pos 2) = ap version_in (c.as_slice.ensures.value ∙ found) in
-    let schema : was.now.schema ≡ keep_schema = ap (λ db. db.schema) settled ∙ shows.has.schema in
+    let settled = c.is_autocommit.ensures.settled c.if-not-is_autocommit.false (c.in_ok-rows.ensures.asked.reads.began clean).1 in
+    let schema = schema_is settled shows.has.schema in
     let whole : c.has_all-second.result ≡ true = c.has_all-second.ensures ∙ ap has_all (c.schema-4.ensures.value ∙ schema) ∙ keep_has_all in
-    second_told (version_in c.as_slice.result.now) c.has_first-first.result c.is_used-used.result c.has_all-second.result c.version_told.result c.version_told.ensures version whole
+    second_told (version_in c.as_slice.result.now) c.has_first-first.result c.is_used-used.result c.has_all-second.result c.version_told.result c.version_told.ensures
+    (version_found shows settled (c.in_ok-rows.ensures.versions clean.0) c.as_slice.ensures.value) whole

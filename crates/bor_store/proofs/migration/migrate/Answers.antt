@@ -2,8 +2,8 @@ use Rattle.std.proofs.Common.{◌∙◌, true≢false, sym}
 use Rattle.std.proofs.lemmas.Result.{err_from_is_err_and}
 use Rattle.sqlite.specs.Held.{state}
 use Rattle.bor_store.proofs.Either.{still_first}
-use Rattle.bor_store.proofs.Legals.{moved_to_itself}
-use Rattle.bor_store.proofs.Moving.{move_made, move_refused, move_stayed, never_taken}
+use Rattle.bor_store.proofs.Stored.{moved_to_itself}
+use Rattle.bor_store.proofs.Judging.{move_made, move_refused, move_stayed, never_taken}
 use Rattle.bor_store.proofs.Stopping.{after_read, only_read}
 use Rattle.bor_store.proofs.migration.migrate.Goals as goal
 

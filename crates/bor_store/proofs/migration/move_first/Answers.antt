@@ -3,7 +3,7 @@ use Rattle.std.proofs.lemmas.Result.{err_from_is_err_and}
 use Rattle.sqlite.specs.Held.{state}
 use Rattle.bor_store_sql.proofs.Finding.{of_first}
 use Rattle.bor_store.proofs.Either.{still_first}
-use Rattle.bor_store.proofs.Moving.{read_failed, read_told}
+use Rattle.bor_store.proofs.Judging.{read_failed, read_told}
 use Rattle.bor_store.proofs.Stopping.{moves_legal, only_read}
 use Rattle.bor_store.proofs.migration.move_first.Goals as goal
 

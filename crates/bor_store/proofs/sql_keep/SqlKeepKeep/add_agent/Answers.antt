@@ -1,7 +1,7 @@
 use Rattle.std.proofs.Common.{ap}
 use Rattle.sqlite.specs.Held.{state}
 use Rattle.bor_register.specs.Additions.{MayEnrol}
-use Rattle.bor_store.proofs.Changing.{changes_where}
+use Rattle.bor_store.proofs.Telling.{changes_where}
 use Rattle.bor_store.proofs.sql_keep.SqlKeepKeep.add_agent.Goals as goal
 
 pub returns : goal.returns

@@ -1,7 +1,7 @@
 use Rattle.std.proofs.Common.{ap, ℕ, ◌+◌}
 use Rattle.sqlite.specs.Held.{state}
 use Rattle.bor_register.specs.Additions.{MayFile}
-use Rattle.bor_store.proofs.Changing.{changes_where}
+use Rattle.bor_store.proofs.Telling.{changes_where}
 use Rattle.bor_store.proofs.sql_keep.SqlKeepKeep.add_filing.Goals as goal
 
 pub returns : goal.returns

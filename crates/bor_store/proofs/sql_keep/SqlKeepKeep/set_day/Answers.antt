@@ -1,6 +1,6 @@
 use Rattle.std.proofs.Common.{ap}
 use Rattle.sqlite.specs.Held.{state}
-use Rattle.bor_store.proofs.Changing.{changes}
+use Rattle.bor_store.proofs.Telling.{changes}
 use Rattle.bor_store.proofs.sql_keep.SqlKeepKeep.set_day.Goals as goal
 
 pub returns : goal.returns

@@ -2,7 +2,7 @@ use Rattle.std.proofs.Common.{ap, subst}
 use Rattle.sqlite.specs.Held.{state}
 use Rattle.bor_store_sql.specs.Changing.{withdrawn}
 use Rattle.bor_store_sql.specs.Shown.{Alters, Always}
-use Rattle.bor_store.proofs.Changing.{changes}
+use Rattle.bor_store.proofs.Telling.{changes}
 use Rattle.bor_store.proofs.sql_keep.SqlKeepKeep.withdraw.Goals as goal
 
 pub returns : goal.returns
