@@ -1,7 +1,7 @@
 -- The known bytes that a loop of reads has taken, and that a loop of writes has given.
 use Rattle.std.proofs.Common.{◌≡◌, ◌∙◌, ◌≤◌, ◌<◌, ◌-◌, ℕ, List, [], ◌++◌, Option, Some, None, IfSome, Result, Ok, Err, ap, arith, sym, length, take, drop, append-nil, append_assoc, take-append-drop, subst, lit≤}
 use Rattle.std.specs.Io.KnownBytes.{Appends, Consumes, IsAtEnd, Keeps, ReadConsumes}
-use Rattle.std.proofs.KnownBytes.{Appends-trans, Consumes-trans}
+use Rattle.std.proofs.KnownBytes.{Appends-trans, Consumes-kept, Consumes-nil, Consumes-trans}
 use Rattle.std.proofs.lemmas.List.{length-drop, take-append-le, take_all}
 use Rattle.bor_program.specs.Streams.{TakesAtMostPart, TakesPart, part_read}
 
@@ -41,9 +41,7 @@ took_more before middle after read more within e f = (read ++ more, within, Cons
 
 -- nothing was read
 pub took_none : (before after : Option (List ℕ)) → Keeps before after → TakesAtMostPart before after
-took_none None after h = ([], lit≤ tt, tt)
-took_none (Some xs) None h = ([], lit≤ tt, h)
-took_none (Some xs) (Some ys) h = ([], lit≤ tt, sym h)
+took_none before after h = ([], lit≤ tt, Consumes-kept before before after [] (Consumes-nil before) h)
 
 -- the front of these bytes was written, and these are left
 abbrev pub IsWritten : Option (List ℕ) → Option (List ℕ) → List ℕ → List ℕ → Type 0

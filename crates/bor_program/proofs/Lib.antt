@@ -1,11 +1,8 @@
 pub mod KnownWords
 pub mod KnownBytes
 pub mod Ends
-pub mod MetFailures
 pub mod Unread
-pub mod FilesRead
 pub mod Replies
 pub mod Performed
-pub mod Logged
 pub mod OnConnections
 pub mod Carried

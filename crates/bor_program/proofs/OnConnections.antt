@@ -1,10 +1,8 @@
-pub mod Served
 pub mod Watching
 pub mod Phases
 pub mod Servers
 pub mod Running
 pub mod Streams
 pub mod Places
-pub mod Times
 pub mod Waits
 pub mod Remaining

@@ -1,7 +1,6 @@
 -- Facts that follow on a run from the output of the command that it performed.
 use Rattle.bor_records.specs.Promises.{Meaning}
-use Rattle.std.proofs.Common.{◌≡◌, ℕ, List, Bool, IsTrue, ◌∙◌, arith, inl, inr, refl, sym, subst, true, false, if◌then◌else◌}
-use Rattle.std.specs.Borrow.{Bor}
+use Rattle.std.proofs.Common.{◌≡◌, ℕ, List, Bool, IsTrue, ◌∙◌, arith, inl, inr, refl, sym, subst, true, false, if◌then◌else◌, Bor}
 use Rattle.clap.specs.Words.{Text as Words}
 use Rattle.std.specs.List.{list_any}
 use Rattle.bor_http.specs.Incoming.Message.{request_limit}
@@ -27,11 +26,11 @@ use Rattle.bor_program.proofs.Replies.{no_usage, replies_end}
 pub took : {M K Left : Type 0} (system : System K Left) (files : Course M (Deed K)) (asked : Command) (input rest : Known) (streams : Streams)
     → Performs system files asked input rest streams → TakesAtMostPart input rest
 took system files (Check source) input rest streams p = p.1.at_most
-took system files (Init asked) input rest streams p = took_none input rest p.0
-took system files (Exchange asked) input rest streams p = took_none input rest p.0
-took system files (Serve asked) input rest streams p = took_none input rest p.0
-took system files (Report asked) input rest streams p = took_none input rest p.0
-took system files (Migrate asked) input rest streams p = took_none input rest p.0
+took system files asked input rest streams p = took_none input rest p.0
+
+-- status 1 stands for a refusal, and no command ends with 2
+abbrev Says : Known → Known → ℕ → Type 0
+Says output printed status = (status ≡ 1 → PrintsRefusal output printed) × (status ≡ 2 → ⊥)
 
 refuses : (refused : Bool) → 1 ≡ report_status refused → IsTrue refused
 refuses true e = refl
@@ -41,13 +40,9 @@ unusual : (refused : Bool) → 2 ≡ report_status refused → ⊥
 unusual true e = absurd (omega (arith, e))
 unusual false e = absurd (omega (arith, e))
 
-text_refuses : (text : Text) (output printed : Known) (status : ℕ) → status ≡ 1 → IsWrittenOrCutOff text output printed status → PrintsRefusal output printed
-text_refuses text output printed status one (inl h) = inl (text, refuses text.refused (sym one ∙ h.told), h.text)
-text_refuses text output printed status one (inr h) = absurd (omega (arith, h.told, one))
-
-text_unusual : (text : Text) (output printed : Known) (status : ℕ) → status ≡ 2 → IsWrittenOrCutOff text output printed status → ⊥
-text_unusual text output printed status two (inl h) = unusual text.refused (sym two ∙ h.told)
-text_unusual text output printed status two (inr h) = absurd (omega (arith, h.told, two))
+text_says : (text : Text) (output printed : Known) (status : ℕ) → IsWrittenOrCutOff text output printed status → Says output printed status
+text_says text output printed status (inl h) = (λ one. inl (text, refuses text.refused (sym one ∙ h.told), h.text), λ two. unusual text.refused (sym two ∙ h.told))
+text_says text output printed status (inr h) = (λ one. absurd (omega (arith, h.told, one)), λ two. absurd (omega (arith, h.told, two)))
 
 flag_end : (failed : Bool) → IsDoneOrFailed (if failed then 3 else 0)
 flag_end true = inr refl
@@ -72,50 +67,25 @@ inits_end Reads meaning files asked streams (inr h) = elim h.2.done [
   | inr k ↦ end_of asked.db k.1 streams.errors streams.told streams.status k.3
 ]
 
-no_one : (n : ℕ) → IsDoneOrFailed n → n ≡ 1 → ⊥
-no_one n (inl h) e = absurd (omega (arith, h, e))
-no_one n (inr h) e = absurd (omega (arith, h, e))
+done_says : (output printed : Known) (status : ℕ) → IsDoneOrFailed status → Says output printed status
+done_says output printed status (inl h) = (λ one. absurd (omega (arith, h, one)), λ two. absurd (omega (arith, h, two)))
+done_says output printed status (inr h) = (λ one. absurd (omega (arith, h, one)), λ two. absurd (omega (arith, h, two)))
 
-no_two : (n : ℕ) → IsDoneOrFailed n → n ≡ 2 → ⊥
-no_two n (inl h) e = absurd (omega (arith, h, e))
-no_two n (inr h) e = absurd (omega (arith, h, e))
-
-sent_refusal : {M K Left : Type 0} (Reads : Bor Words → List ℕ → Type 0) (meaning : Meaning K Register Left StoreFault) (files : Course M (Deed K)) (asked : Exchanging) (streams : Streams) → streams.status ≡ 1
-    → Exchanges Reads meaning files asked streams → PrintsRefusal streams.output streams.printed
-sent_refusal Reads meaning files asked streams one p = elim p.sent.1 [
-  | inl h ↦ inr (p.sent.0, sym h.1 ∙ one, h.0)
-  | inr h ↦ absurd (omega (arith, h.1, one))
+sent_says : {M K Left : Type 0} (Reads : Bor Words → List ℕ → Type 0) (meaning : Meaning K Register Left StoreFault) (files : Course M (Deed K)) (asked : Exchanging) (streams : Streams)
+    → Exchanges Reads meaning files asked streams → Says streams.output streams.printed streams.status
+sent_says Reads meaning files asked streams p = elim p.sent.1 [
+  | inl h ↦ (λ one. inr (p.sent.0, sym h.1 ∙ one, h.0), λ two. no_usage _ (replies_end p.sent.0) (sym h.1 ∙ two))
+  | inr h ↦ (λ one. absurd (omega (arith, h.1, one)), λ two. absurd (omega (arith, h.1, two)))
 ]
 
-sent_unusual : {M K Left : Type 0} (Reads : Bor Words → List ℕ → Type 0) (meaning : Meaning K Register Left StoreFault) (files : Course M (Deed K)) (asked : Exchanging) (streams : Streams) → streams.status ≡ 2
-    → Exchanges Reads meaning files asked streams → ⊥
-sent_unusual Reads meaning files asked streams two p = elim p.sent.1 [
-  | inl h ↦ no_usage _ (replies_end p.sent.0) (sym h.1 ∙ two)
-  | inr h ↦ absurd (omega (arith, h.1, two))
+pub says : {M K Left : Type 0} (system : System K Left) (files : Course M (Deed K)) (asked : Command) (input rest : Known) (streams : Streams)
+    → Performs system files asked input rest streams → Says streams.output streams.printed streams.status
+says system files (Check source) input rest streams p = text_says _ _ _ _ p.1.report.1
+says system files (Init asked) input rest streams p = done_says _ _ _ (inits_end system.reads system.meaning files asked streams p.1)
+says system files (Exchange asked) input rest streams p = elim p.1 [
+  | inl h ↦ done_says _ _ _ (inr h.status_is)
+  | inr h ↦ sent_says (system.reads request_limit) system.meaning files h.0 streams h.2
 ]
-
--- status 1 stands for a refusal
-pub refusal : {M K Left : Type 0} (system : System K Left) (files : Course M (Deed K)) (asked : Command) (input rest : Known) (streams : Streams) → streams.status ≡ 1
-    → Performs system files asked input rest streams → PrintsRefusal streams.output streams.printed
-refusal system files (Check source) input rest streams one p = text_refuses _ _ _ _ one p.1.report.1
-refusal system files (Init asked) input rest streams one p = absurd (no_one _ (inits_end system.reads system.meaning files asked streams p.1) one)
-refusal system files (Exchange asked) input rest streams one p = elim p.1 [
-  | inl h ↦ absurd (omega (arith, h.status_is, one))
-  | inr h ↦ sent_refusal (system.reads request_limit) system.meaning files h.0 streams one h.2
-]
-refusal system files (Serve asked) input rest streams one p = absurd (no_one _ (serves_end system.hosts system.meaning files asked streams p.1) one)
-refusal system files (Report asked) input rest streams one p = text_refuses _ _ _ _ one p.1.text.1
-refusal system files (Migrate asked) input rest streams one p = text_refuses migrated _ _ _ one p.1.text
-
--- no command ends with 2
-pub no_fault : {M K Left : Type 0} (system : System K Left) (files : Course M (Deed K)) (asked : Command) (input rest : Known) (streams : Streams) → streams.status ≡ 2
-    → Performs system files asked input rest streams → ⊥
-no_fault system files (Check source) input rest streams two p = text_unusual _ _ _ _ two p.1.report.1
-no_fault system files (Init asked) input rest streams two p = no_two _ (inits_end system.reads system.meaning files asked streams p.1) two
-no_fault system files (Exchange asked) input rest streams two p = elim p.1 [
-  | inl h ↦ absurd (omega (arith, h.status_is, two))
-  | inr h ↦ sent_unusual (system.reads request_limit) system.meaning files h.0 streams two h.2
-]
-no_fault system files (Serve asked) input rest streams two p = no_two _ (serves_end system.hosts system.meaning files asked streams p.1) two
-no_fault system files (Report asked) input rest streams two p = text_unusual _ _ _ _ two p.1.text.1
-no_fault system files (Migrate asked) input rest streams two p = text_unusual migrated _ _ _ two p.1.text
+says system files (Serve asked) input rest streams p = done_says _ _ _ (serves_end system.hosts system.meaning files asked streams p.1)
+says system files (Report asked) input rest streams p = text_says _ _ _ _ p.1.text.1
+says system files (Migrate asked) input rest streams p = text_says migrated _ _ _ p.1.text

@@ -1,8 +1,7 @@
 -- Bytes that are written part by part, and how replies end.
 use Rattle.bor_register.specs.declared.fault.StoreFault.{StoreFault}
-use Rattle.std.proofs.Common.{◌≡◌, ◌∙◌, ◌≤◌, ◌⊎◌, ℕ, List, [], ◌∷◌, ◌++◌, Option, Some, None, Result, Ok, Err, ap, arith, inl, inr, refl, sym, subst, true, false, Bool, max, ◌+◌, ◌/◌, ◌<◌, IfSome, length, option_map, take, append-nil, append_assoc, lit≤}
+use Rattle.std.proofs.Common.{◌≡◌, ◌∙◌, ◌≤◌, ◌⊎◌, ℕ, List, [], ◌∷◌, ◌++◌, Option, Some, None, Result, Ok, Err, ap, arith, inl, inr, refl, sym, subst, true, false, Bool, max, ◌+◌, ◌/◌, ◌<◌, IfSome, length, option_map, take, append-nil, append_assoc, lit≤, Bor, is_err}
 use Rattle.std.specs.Prelude.{◌≢◌, ⊤}
-use Rattle.std.specs.Borrow.{Bor}
 use Rattle.std.specs.Io.KnownBytes.{Appends, Keeps}
 use Rattle.std.proofs.KnownBytes.{Appends-trans}
 use Rattle.std.proofs.lemmas.Bool.{le-leb, lt-leb}
@@ -10,8 +9,7 @@ use Rattle.clap.specs.Words.{Text as Words}
 use Rattle.bor_wire.specs.Sent.{Sent, Full, Unavailable, TellsStatus, status_sent}
 use Rattle.bor_desk.specs.declared.text.Text.{Text}
 use Rattle.bor_program.specs.declared.status.Status.{Status}
-use Rattle.bor_program.specs.declared.status.Status.TheVariants.{Done, Refused, Usage, Failed}
-use Rattle.std.specs.Result.{is_err}
+use Rattle.bor_program.specs.declared.status.Status.TheVariants.{Done, Failed}
 use Rattle.bor_program.specs.Inputs.{AreReadOf}
 use Rattle.bor_program.specs.Reporting.{EndsTelling}
 use Rattle.bor_program.specs.Program.{exit_code, report_status}
@@ -29,21 +27,21 @@ use Rattle.std.proofs.lemmas.List.Elements.{All-nil}
 use Rattle.bor_wire.specs.Turns.{AnswersClean, InTurn, IsTurn}
 use Rattle.bor_wire.proofs.SequenceLaws.{run_over}
 use Rattle.bor_program.proofs.Ends.{part_none}
-use Rattle.bor_program.proofs.FilesRead.{none_read}
+use Rattle.bor_program.proofs.Unread.{none_read}
 use Rattle.bor_program.proofs.KnownBytes.{IsWritten}
 
 -- a part was written whole, and the rest is left
-pub part_written : (before middle after : Option (List ℕ)) (bytes part rest : List ℕ) → IsWritten before middle bytes (part ++ rest)
+pub part_written : (before middle after : Option (List ℕ)) (bytes left part rest : List ℕ) → left ≡ part ++ rest → IsWritten before middle bytes left
     → Appends middle after part → IsWritten before after bytes rest
-part_written before middle after bytes part rest h e =
-    (h.0 ++ part, h.1 ∙ sym (append_assoc h.0 part rest), Appends-trans before middle after h.0 part h.2 e)
+part_written before middle after bytes left part rest more h e =
+    (h.0 ++ part, h.1 ∙ ap (λ l. h.0 ++ l) more ∙ sym (append_assoc h.0 part rest), Appends-trans before middle after h.0 part h.2 e)
 
 -- a front of a part was written
-pub part_begun : (before middle after : Option (List ℕ)) (bytes part rest : List ℕ) → IsWritten before middle bytes (part ++ rest)
+pub part_begun : (before middle after : Option (List ℕ)) (bytes left part rest : List ℕ) → left ≡ part ++ rest → IsWritten before middle bytes left
     → AppendsPart middle after part → AppendsPart before after bytes
-part_begun before middle after bytes part rest h e =
+part_begun before middle after bytes left part rest more h e =
     let split : bytes ≡ (h.0 ++ e.0) ++ (e.1 ++ rest) =
-    h.1 ∙ ap (λ l. h.0 ++ (l ++ rest)) e.2 ∙ ap (λ l. h.0 ++ l) (append_assoc e.0 e.1 rest) ∙ sym (append_assoc h.0 e.0 (e.1 ++ rest)) in
+    h.1 ∙ ap (λ l. h.0 ++ l) more ∙ ap (λ l. h.0 ++ (l ++ rest)) e.2 ∙ ap (λ l. h.0 ++ l) (append_assoc e.0 e.1 rest) ∙ sym (append_assoc h.0 e.0 (e.1 ++ rest)) in
     (h.0 ++ e.0, e.1 ++ rest, split, Appends-trans before middle after h.0 e.0 h.2 e.3)
 
 pub part_of_all : (before after : Option (List ℕ)) (bytes : List ℕ) → Appends before after bytes → AppendsPart before after bytes
@@ -69,9 +67,7 @@ tells_err P before after (Ok status) e h = cc
 
 code_most : (status : Status) → exit_code status ≤ 3
 code_most Done = lit≤ tt
-code_most Refused = lit≤ tt
-code_most Usage = lit≤ tt
-code_most Failed = lit≤ tt
+code_most status = lit≤ tt
 
 -- the end of an exchange and that of reading its files
 pub worse_done : (status read : Status) (code : ℕ) → code ≡ max (exit_code status) (exit_code read) → code ≤ 1 → (read ≡ Done) ⊎ (read ≡ Failed) → read ≡ Done
@@ -177,21 +173,11 @@ reply_end (Full status bytes) = text_end (is_refusal bytes)
 reply_end Unavailable = inr (inr refl)
 
 greater_end : (m n : ℕ) → IsEnd m → IsEnd n → IsEnd (max m n)
-greater_end m n (inl a) (inl b) = rw (a, b) (inl refl)
-greater_end m n (inl a) (inr (inl b)) = rw (a, b) (inr (inl refl))
-greater_end m n (inl a) (inr (inr b)) = rw (a, b) (inr (inr refl))
-greater_end m n (inr (inl a)) (inl b) = rw (a, b) (inr (inl refl))
-greater_end m n (inr (inl a)) (inr (inl b)) = rw (a, b) (inr (inl refl))
-greater_end m n (inr (inl a)) (inr (inr b)) = rw (a, b) (inr (inr refl))
-greater_end m n (inr (inr a)) (inl b) = rw (a, b) (inr (inr refl))
-greater_end m n (inr (inr a)) (inr (inl b)) = rw (a, b) (inr (inr refl))
-greater_end m n (inr (inr a)) (inr (inr b)) = rw (a, b) (inr (inr refl))
+greater_end m n h k = grind arith
 
 pub replies_end : (replies : List Sent) → IsEnd (replies_status replies)
 replies_end [] = inl refl
 replies_end (reply ∷ replies) = greater_end (reply_status reply) (replies_status replies) (reply_end reply) (replies_end replies)
 
 pub no_usage : (n : ℕ) → IsEnd n → n ≡ 2 → ⊥
-no_usage n (inl a) e = let bad : ◌≡◌ {A = ℕ} 0 2 = sym a ∙ e in absurd (omega arith)
-no_usage n (inr (inl a)) e = let bad : ◌≡◌ {A = ℕ} 1 2 = sym a ∙ e in absurd (omega arith)
-no_usage n (inr (inr a)) e = let bad : ◌≡◌ {A = ℕ} 3 2 = sym a ∙ e in absurd (omega arith)
+no_usage n h e = grind arith

@@ -148,6 +148,7 @@ where
 }
 
 // Does what is asked, and tells on standard error why it could not be done.
+#[tactic(auto, using(crate::proofs::Ends::output_kept))]
 fn perform<R: NamedFiles + Clock + AllocGlobal, H: Ports, I: Read, O: Output, E: Write>(
     rt: &R,
     host: &mut H,
@@ -185,6 +186,7 @@ where
 
 // Answers words that ask for no command: this help on standard output, or what is wrong with them
 // on standard error.
+#[tactic(auto, using(crate::proofs::Ends::output_kept, crate::proofs::Ends::part_none))]
 fn answer<O: Output, E: Write>(
     unread: Unread<'_>,
     help: &str,

@@ -1,9 +1,7 @@
 -- Words behind a command's name as they are joined, one after the other.
-use Rattle.std.proofs.Common.{◌≡◌, ◌++◌, ◌∙◌, ◌||◌, ◌==◌, Bool, List, [], ◌∷◌, append_assoc, ap, codes, false, not, refl, subst, sym, true}
-use Rattle.std.specs.Prelude.{if◌then◌else◌}
+use Rattle.std.proofs.Common.{◌≡◌, ◌++◌, ◌∙◌, ◌||◌, ◌==◌, Bool, List, [], ◌∷◌, append_assoc, ap, codes, false, refl, subst, sym, true, if◌then◌else◌, bytes_eq}
 use Rattle.std.specs.List.{before_first, list_all}
-use Rattle.std.specs.Str.{bytes_eq}
-use Rattle.std.proofs.lemmas.Bool.{and_parts}
+use Rattle.std.proofs.lemmas.Bool.{and_parts, not-true}
 use Rattle.std.proofs.lemmas.Slice.Eq.{bytes_eq-Decides}
 use Rattle.clap.specs.Words.{Text}
 use Rattle.bor_words.specs.Joined.{is_among, is_value, joined_at, joined_behind, report_options, serve_options, setup_options, takes_value}
@@ -54,10 +52,6 @@ option_is_name command word =
 
 -- ---- a value
 
-no : (b : Bool) → not b ≡ true → b ≡ false
-no true h = absurd cc
-no false h = refl
-
 takes_none : (command word : Text) (b : Bool) → takes_value command word ≡ b → takes_value command (name_in word) ≡ false → b ≡ false
 takes_none command word true is h =
     let same : takes_value command word ≡ false = subst (λ (w : Text). takes_value command w ≡ false) (option_is_name command word is) h in
@@ -71,7 +65,7 @@ value_is_neither command word h =
     let one = and_parts _ _ h in
     let two = and_parts _ _ one.1 in
     let three = and_parts _ _ two.1 in
-    (no _ two.0, takes_none command word (takes_value command word) refl (no _ three.0))
+    (not-true _ two.0, takes_none command word (takes_value command word) refl (not-true _ three.0))
 
 -- ---- one word more
 

@@ -1,8 +1,7 @@
 -- A value that doesn't fit behind a command doesn't fit among the words that are entered.
-use Rattle.std.proofs.Common.{◌≡◌, List, Some, None, codes, sym, subst}
+use Rattle.std.proofs.Common.{◌≡◌, List, Some, None, codes, sym, subst, bytes_eq}
 use Rattle.std.proofs.lemmas.Option.{cond_some, none-some}
 use Rattle.std.proofs.lemmas.Slice.Eq.{bytes_eq-Decides}
-use Rattle.std.specs.Str.{bytes_eq}
 use Rattle.clap.specs.Words.{Row, Text}
 use Rattle.bor_words.specs.declared.unread.Unread.{Unread}
 use Rattle.bor_words.specs.Unread.{IsUnfitAmong}

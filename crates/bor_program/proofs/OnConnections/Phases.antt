@@ -11,13 +11,13 @@ use Rattle.bor_program.specs.declared.log.Note.{Note}
 use Rattle.bor_program.specs.Logging.{IsNoteOf, MayNote}
 use Rattle.bor_program.specs.Connections.Streams.{EndedOn, Wire}
 use Rattle.bor_program.specs.declared.connections.phase.Phase.{Phase}
-use Rattle.bor_program.specs.declared.connections.phase.Phase.TheVariants.{Reading, Writing, Draining}
+use Rattle.bor_program.specs.declared.connections.phase.Phase.TheVariants.{Reading}
 use Rattle.bor_program.specs.declared.connections.phase.Pace.{Pace}
-use Rattle.bor_program.specs.declared.connections.phase.Pace.TheVariants.{Blocked, Moved, Turned}
+use Rattle.bor_program.specs.declared.connections.phase.Pace.TheVariants.{Blocked, Turned}
 use Rattle.bor_program.specs.declared.connections.phase.Step.TheVariants.{Goes}
 use Rattle.bor_program.specs.Connections.Phases.{IsStep, ReadsOn, Stand, stand_at}
 use Rattle.bor_program.specs.Connections.Times.{IsBegun, IsIdleSince, IsPaced, IsTurned, moves_of, turns_of}
-use Rattle.bor_program.proofs.OnConnections.Served.{answers}
+use Rattle.bor_program.proofs.OnConnections.Servers.{answers}
 
 -- nothing was answered
 pub same_step : {K S Left : Type 0} (meaning : Meaning K Register Left StoreFault) (wire : Wire S) (keep : K) (this that : List GivenReply) (notes : List Note)
@@ -42,25 +42,13 @@ then_steps meaning wire this between that first second = λ start others tally n
 
 pub reads_same : {S : Type 0} (remaining : S → Option (List ℕ)) (p : Phase S) → ReadsOn remaining p p
 reads_same remaining (Reading r) = λ came h. h
-reads_same remaining (Writing w) = tt
-reads_same remaining (Draining d) = tt
+reads_same remaining p = tt
 
 pub reads_then : {S : Type 0} (remaining : S → Option (List ℕ)) (p q r : Phase S) → ReadsOn remaining p q → ReadsOn remaining q r → ReadsOn remaining p r
 reads_then remaining (Reading p) (Reading q) (Reading r) h k = λ came is. k came (h came is)
-reads_then remaining (Reading p) (Writing q) (Reading r) h k = absurd k
-reads_then remaining (Reading p) (Draining q) (Reading r) h k = absurd k
-reads_then remaining (Writing p) (Reading q) (Reading r) h k = absurd h
-reads_then remaining (Writing p) (Writing q) (Reading r) h k = absurd k
-reads_then remaining (Writing p) (Draining q) (Reading r) h k = absurd k
-reads_then remaining (Draining p) (Reading q) (Reading r) h k = absurd h
-reads_then remaining (Draining p) (Writing q) (Reading r) h k = absurd k
-reads_then remaining (Draining p) (Draining q) (Reading r) h k = absurd k
-reads_then remaining (Reading p) q (Writing r) h k = tt
-reads_then remaining (Writing p) q (Writing r) h k = tt
-reads_then remaining (Draining p) q (Writing r) h k = tt
-reads_then remaining (Reading p) q (Draining r) h k = tt
-reads_then remaining (Writing p) q (Draining r) h k = tt
-reads_then remaining (Draining p) q (Draining r) h k = tt
+reads_then remaining p (Reading q) (Reading r) h k = absurd h
+reads_then remaining p q (Reading r) h k = absurd k
+reads_then remaining p q r h k = tt
 
 -- ---- since when a client is idle
 
@@ -77,12 +65,10 @@ idle_moved first old next begun idle later now h more is =
 
 pub idle_on : {S : Type 0} (first old next : Phase S) (pace : Pace) (begun idle later now : Duration) → IsIdleSince (moves_of first) (moves_of old) begun now idle → IsPaced old (Goes next pace)
     → (pace ≡ Blocked → later ≡ idle) → (pace ≢ Blocked → later ≡ now) → IsIdleSince (moves_of first) (moves_of next) begun now later
-idle_on first old next Moved begun idle later now h paced blocked other =
-    idle_moved (moves_of first) (moves_of old) (moves_of next) begun idle later now h paced (other (λ is. cc))
-idle_on first old next Turned begun idle later now h paced blocked other =
-    idle_moved (moves_of first) (moves_of old) (moves_of next) begun idle later now h paced (other (λ is. cc))
 idle_on first old next Blocked begun idle later now h paced blocked other =
     idle_still (moves_of first) (moves_of old) (moves_of next) begun idle later now h paced (blocked refl)
+idle_on first old next pace begun idle later now h paced blocked other =
+    idle_moved (moves_of first) (moves_of old) (moves_of next) begun idle later now h paced (other (λ is. cc))
 
 begun_still : (first old next : ℕ) (before since later : Option Duration) → IsBegun first old before since → next ≡ old → later ≡ since → IsBegun first next before later
 begun_still first old next before since later h same is = record {
@@ -95,7 +81,5 @@ pub begun_on : {S : Type 0} (first old next : Phase S) (pace : Pace) (before sin
     → (pace ≡ Turned → later ≡ None) → (pace ≢ Turned → later ≡ since) → IsBegun (turns_of first) (turns_of next) before later
 begun_on first old next Turned before since later h turns turned other =
     record { on = omega (arith, h.on, turns); same = λ none. absurd (omega (arith, none, turns, h.on)); turned = λ some. turned refl }
-begun_on first old next Moved before since later h turns turned other =
-    begun_still (turns_of first) (turns_of old) (turns_of next) before since later h turns (other (λ is. cc))
-begun_on first old next Blocked before since later h turns turned other =
+begun_on first old next pace before since later h turns turned other =
     begun_still (turns_of first) (turns_of old) (turns_of next) before since later h turns (other (λ is. cc))

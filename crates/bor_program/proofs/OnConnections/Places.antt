@@ -1,6 +1,5 @@
 -- Places that are taken, and left again.
-use Rattle.std.proofs.Common.{◌≡◌, ◌≢◌, ◌+◌, ◌<◌, ℕ, List, [], ◌∷◌, ◌++◌, Bool, true, false, arith, ap, cond, get_or, length, refl, set, subst, suc, sym, zero, ◌∙◌}
-use Rattle.std.specs.Prelude.{remove}
+use Rattle.std.proofs.Common.{◌≡◌, ◌≢◌, ◌+◌, ◌<◌, ℕ, List, [], ◌∷◌, ◌++◌, Bool, true, false, arith, ap, cond, get_or, length, refl, set, subst, suc, sym, zero, ◌∙◌, remove}
 use Rattle.std.proofs.lemmas.List.{get_or-set_other, set_comm}
 use Rattle.std.proofs.lemmas.List.Sums.{sum_by-cons}
 use Rattle.bor_program.specs.declared.connections.server.Client.{Client}

@@ -1,6 +1,5 @@
 -- Clients that are still there after a turn.
-use Rattle.std.proofs.Common.{◌≡◌, ◌+◌, ◌-◌, ◌<◌, ◌∙◌, ℕ, List, [], ◌∷◌, ◌++◌, Bool, Option, Some, false, ap, append_assoc, arith, drop, get_or, length, refl, set, subst, suc, sym, take, zero}
-use Rattle.std.proofs.Math.ListN.{length-drop}
+use Rattle.std.proofs.Common.{◌≡◌, ◌+◌, ◌-◌, ◌<◌, ◌∙◌, ℕ, List, [], ◌∷◌, ◌++◌, Bool, Option, Some, false, ap, append_assoc, arith, drop, get_or, length, refl, set, subst, suc, sym, take, zero, length-drop}
 use Rattle.std.proofs.Math.Seq.{drop-append_seam}
 use Rattle.std.proofs.lemmas.List.Elements.{All-more, All-weaker}
 use Rattle.std.specs.declared.time.Duration.{Duration}

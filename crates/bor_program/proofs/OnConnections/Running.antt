@@ -1,8 +1,7 @@
 -- A server that lets clients in and goes on, and when it may end.
 use Rattle.bor_register.specs.declared.fault.StoreFault.{StoreFault}
 use Rattle.bor_records.specs.Promises.{Meaning}
-use Rattle.std.proofs.Common.{◌≡◌, ◌+◌, ◌<◌, inl, ℕ, List, [], ◌∷◌, ◌++◌, Bool, Option, true, append-nil, append_assoc, sym, refl, ap, subst, ◌∙◌, arith}
-use Rattle.std.specs.Prelude.{◌||◌}
+use Rattle.std.proofs.Common.{◌≡◌, ◌+◌, ◌<◌, inl, ℕ, List, [], ◌∷◌, ◌++◌, Bool, Option, true, append-nil, append_assoc, sym, refl, ap, subst, ◌∙◌, arith, ◌||◌}
 use Rattle.std.specs.List.{All, list_any}
 use Rattle.std.proofs.lemmas.List.Folds.{list_any-append}
 use Rattle.std.proofs.lemmas.List.Elements.{All-append, All-cons, All-nil}

@@ -1,6 +1,5 @@
 -- Calls of a watch, one after the other.
-use Rattle.std.proofs.Common.{◌≡◌, ◌+◌, inl, inr, ℕ, List, [], ◌∷◌, ◌++◌, Bool, true, false, append-nil, append_assoc, cond, map, Option, refl, ap, subst, sym, ◌∙◌, arith}
-use Rattle.std.specs.Prelude.{◌||◌}
+use Rattle.std.proofs.Common.{◌≡◌, ◌+◌, inl, inr, ℕ, List, [], ◌∷◌, ◌++◌, Bool, true, false, append-nil, append_assoc, cond, map, Option, refl, ap, subst, sym, ◌∙◌, arith, ◌||◌}
 use Rattle.std.specs.List.{All, list_any}
 use Rattle.std.proofs.lemmas.List.Elements.{All-append, All-cons, All-nil, All-weaker}
 use Rattle.std.proofs.lemmas.List.{map-append}
@@ -8,7 +7,7 @@ use Rattle.std.proofs.lemmas.List.Folds.{list_any-append}
 use Rattle.std.proofs.lemmas.List.Sums.{sum_by-append}
 use Rattle.std.specs.declared.time.Duration.{Duration}
 use Rattle.bor_program.specs.declared.log.Note.{Note}
-use Rattle.bor_program.specs.Connections.Watching.{Act, Accepts, AreDone, AreTold, Coming, DoesUnwaiting, IsOver, Listens, Notes, OnWait, Waits, Watches, WaitsOnce, faults_after, faults_with, is_deaf, is_refusal, is_wait, notes_in, notes_of, refused_in, waits_in}
+use Rattle.bor_program.specs.Connections.Watching.{Act, Accepts, AreDone, AreTold, Coming, DoesUnwaiting, IsOver, Notes, OnWait, Waits, Watches, WaitsOnce, faults_after, faults_with, is_deaf, is_refusal, is_wait, notes_in, notes_of, refused_in, waits_in}
 
 pub refused-append : (xs ys : List Act) → refused_in (xs ++ ys) ≡ refused_in xs + refused_in ys
 refused-append xs ys = sum_by-append (λ act. cond (is_refusal act) 1 0) xs ys
@@ -32,11 +31,8 @@ one_act : (P : Option Duration → Type 0) (act : Act) → OnWait P act → All 
 one_act P act is = All-cons (OnWait P) act [] is (All-nil (OnWait P))
 
 wait_weaker : (P Q : Option Duration → Type 0) → ((limit : Option Duration) → P limit → Q limit) → (act : Act) → OnWait P act → OnWait Q act
-wait_weaker P Q so (Listens failed) is = tt
-wait_weaker P Q so (Accepts came) is = tt
-wait_weaker P Q so (Watches failed) is = tt
 wait_weaker P Q so (Waits limit failed) is = so limit is
-wait_weaker P Q so (Notes note) is = tt
+wait_weaker P Q so act is = tt
 
 pub waits_weaker : (P Q : Option Duration → Type 0) → ((limit : Option Duration) → P limit → Q limit) → (acts : List Act) → All (OnWait P) acts → All (OnWait Q) acts
 waits_weaker P Q so acts h = All-weaker (OnWait P) (OnWait Q) (wait_weaker P Q so) acts h

@@ -215,6 +215,7 @@ impl<S: Read + Write + OpenStream + Drop> Server<S> {
     }
 
     // Where all places are taken, the client that was idle for the longest gives way.
+    #[tactic(auto, using(crate::proofs::OnConnections::Servers::lets_same))]
     fn make_way(&mut self)
         requires held { AreHeld (wire_of S.remaining S.contents) self.old.queue.items }
         requires seated { AreSeated self.old.seats.taken self.old.queue.items }
@@ -308,6 +309,7 @@ impl<S: Read + Write + OpenStream + Drop> Server<S> {
     }
 
     // Serves the first client of the queue, and puts it behind the others.
+    #[tactic(auto, using(crate::proofs::OnConnections::Waits::waiting_none))]
     fn serve_next<K: Keep>(&mut self, keep: &mut K, now: Option<Duration>)
         requires held { AreHeld (wire_of S.remaining S.contents) self.old.queue.items }
         requires seated { AreSeated self.old.seats.taken self.old.queue.items }
@@ -329,6 +331,7 @@ impl<S: Read + Write + OpenStream + Drop> Server<S> {
     }
 
     // Serves a client, and puts it behind the others.
+    #[tactic(auto, using(crate::proofs::OnConnections::Waits::waiting_none))]
     fn serve<K: Keep>(&mut self, keep: &mut K, client: Client<S>, now: Duration)
         requires held { AreHeld (wire_of S.remaining S.contents) self.old.queue.items }
         requires client { IsHeld (wire_of S.remaining S.contents) client.phase }
@@ -370,6 +373,7 @@ impl<S: Read + Write + OpenStream + Drop> Server<S> {
     }
 
     // Puts a client behind the others, if it still has time.
+    #[tactic(auto, using(crate::proofs::OnConnections::Waits::waiting_none))]
     fn go_on(&mut self, client: Client<S>, now: Duration)
         requires held { AreHeld (wire_of S.remaining S.contents) self.old.queue.items }
         requires client { IsHeld (wire_of S.remaining S.contents) client.phase }

@@ -28,6 +28,7 @@ const STEPS: usize = 32;
 
 /// Reads, answers or writes once, as the client's phase is. A request is answered as soon as it is
 /// whole.
+#[tactic(auto, using(crate::proofs::OnConnections::Phases::same_step))]
 pub(crate) fn step<K: Keep, S: Read + Write + OpenStream + Drop>(
     service: &mut Service,
     keep: &mut K,
@@ -110,6 +111,7 @@ fn write_on<S: Read + Write + OpenStream + Drop>(mut writing: Writing<S>) -> Ste
 }
 
 // Reads once behind a reply.
+#[tactic(auto, using(crate::proofs::OnConnections::Streams::drains_on))]
 fn drain_on<S: Read + Write + Drop>(mut draining: Draining<S>) -> Step<S>
     requires { IsHeld (wire_of S.remaining S.contents) (Phase.Draining draining) }
     ensures held { IsHeld (wire_of S.remaining S.contents) (phase_of result) }

@@ -76,6 +76,7 @@ pub(crate) enum Written {
 
 impl<S: Read + Write + OpenStream> Writing<S> {
     /// A client whose request has come, and of whose reply nothing was written.
+    #[tactic(auto, using(crate::proofs::OnConnections::Streams::begins_writing))]
     pub(crate) fn new(stream: S, request: Snapshot<Vec<u8>>, reply: Reply) -> Writing<S>
         requires came { Came S.remaining stream request.value.items }
         requires fits { length request.value.items ≤ request_limit }

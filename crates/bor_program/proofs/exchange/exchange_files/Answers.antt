@@ -4,9 +4,8 @@ use Rattle.bor_http.specs.Incoming.Message.{request_limit}
 use Rattle.bor_program.specs.Inputs.{AreReadOf, IsReadOf}
 use Rattle.bor_program.specs.Program.{exit_code}
 use Rattle.bor_program.proofs.Ends.{keeps_same}
-use Rattle.bor_program.proofs.FilesRead.{none_read}
+use Rattle.bor_program.proofs.Unread.{none_read, told_alone}
 use Rattle.bor_program.proofs.Replies.{ends_failed, ends_read, none_answered, worse_done}
-use Rattle.bor_program.proofs.Unread.{told_alone}
 use Rattle.bor_program.proofs.exchange.exchange_files.Goals as goal
 
 pub returns-in-Ok-exchange_on-clause-ends : goal.returns-in-Ok-exchange_on-clause-ends

@@ -1,21 +1,11 @@
-use Rattle.std.proofs.Common.{◌≡◌, Option, Some, None, IfSome, [], ap, arith, inl, inr, refl}
+use Rattle.std.proofs.Common.{◌≡◌, [], ap, arith, inl, inr, refl}
 use Rattle.bor_register.specs.Register.{empty_register}
 use Rattle.bor_desk.proofs.OnOperations.Legality.{empty-legal}
 use Rattle.bor_program.specs.Program.{exit_code}
-use Rattle.bor_program.proofs.Ends.{keeps_same, part_none}
-use Rattle.bor_program.proofs.MetFailures.{fails_to_open}
+use Rattle.bor_program.proofs.Ends.{keeps_same, part_none, fails_to_open}
 use Rattle.bor_program.proofs.Replies.{sent_as, sent_some, whatever_left}
 use Rattle.bor_program.proofs.Unread.{files_as}
 use Rattle.bor_program.proofs.exchange.exchange_told.Goals as goal
-
-named : {A : Type 0} (o : Option A) (x : A) → o ≡ Some x → o ≡ None → ⊥
-named o x e f = cc
-
-of_named : {A : Type 0} (P : A → Type 0) (o : Option A) (x : A) → o ≡ Some x → P x → IfSome o P
-of_named P o x e h = rw e h
-
-of_none : {A : Type 0} (P : A → Type 0) (o : Option A) → o ≡ None → IfSome o P
-of_none P o e = rw e tt
 
 pub returns-in-Ok-clause-done : goal.returns-in-Ok-clause-done
 returns-in-Ok-clause-done g c =
@@ -23,8 +13,8 @@ returns-in-Ok-clause-done g c =
     let told = files_as _ _ _ _ _ _ c.as_slice.ensures.value c.exchange_files-status.ensures.told in
     record {
       sent = sent_some _ _ _ _ _ _ ends;
-      answered = λ none. absurd (named _ _ c.in-Some.is none);
-      opened = of_named _ _ _ c.in-Some.is (inr (
+      answered = λ none. absurd (cc (c.in-Some.is, none));
+      opened = rw c.in-Some.is (inr (
         c.in-Ok.field-0.register,
         c.in-Ok.field-0.origin,
         c.exchange_files-status.new.register,
@@ -39,8 +29,8 @@ returns-in-Some-clause-done g c =
     let three : exit_code c.tell.result ≡ 3 = ap exit_code c.tell.ensures.status in
     record {
       sent = ([], inr (part_none _ _ [] (keeps_same _), three));
-      answered = λ none. absurd (named _ _ c.in-Some.is none);
-      opened = of_named _ _ _ c.in-Some.is (inl (fails_to_open _ _ _ _ three (keeps_same _) c.in-Err.ensures.err c.in-Err.ensures.cause c.tell.ensures.line));
+      answered = λ none. absurd (cc (c.in-Some.is, none));
+      opened = rw c.in-Some.is (inl (fails_to_open _ _ _ _ three (keeps_same _) c.in-Err.ensures.err c.in-Err.ensures.cause c.tell.ensures.line));
       silent = λ low. absurd (omega (arith, low, three));
     }
 
@@ -52,6 +42,6 @@ returns-clause-done g c =
     record {
       sent = sent_some _ _ _ _ _ _ ends;
       answered = λ none. (refl, sent_as _ _ _ _ _ _ _ _ refl (λ inputs replies h. whatever_left _ first inputs replies (empty-legal _ _) (h.answers first c.new-register.ensures.shown tt (empty-legal _ _))) ends, told);
-      opened = of_none _ _ c.in-None.is;
+      opened = rw c.in-None.is tt;
       silent = c.exchange_files.ensures.silent;
     }

@@ -3,8 +3,7 @@ use Rattle.std.proofs.lemmas.List.{take_more}
 use Rattle.bor_http.specs.Incoming.Message.{request_limit}
 use Rattle.bor_program.specs.Failures.{TellsUnread}
 use Rattle.bor_program.specs.Inputs.{AreReadOf, IsReadOf}
-use Rattle.bor_program.proofs.FilesRead.{read_next, read_no_more}
-use Rattle.bor_program.proofs.Unread.{told_no_more, told_one_more}
+use Rattle.bor_program.proofs.Unread.{read_next, read_no_more, told_no_more, told_one_more}
 use Rattle.bor_program.proofs.inputs.read_inputs.Goals as goal
 use Rattle.bor_program.proofs.inputs.read_inputs.Goals.{in-Ok+in_ok-add-in-Ok, in-Err-2}
 

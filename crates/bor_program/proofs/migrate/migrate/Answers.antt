@@ -2,8 +2,7 @@ use Rattle.std.proofs.Common.{◌≡◌, ap, arith, inl, inr, refl}
 use Rattle.bor_program.specs.Performing.{migrated}
 use Rattle.bor_program.specs.Program.{exit_code}
 use Rattle.bor_program.specs.declared.failure.Failure.TheVariants.{Unwritable}
-use Rattle.bor_program.proofs.Ends.{keeps_same, part_none}
-use Rattle.bor_program.proofs.MetFailures.{fails_to_open, met_opening}
+use Rattle.bor_program.proofs.Ends.{keeps_same, part_none, fails_to_open, met_opening}
 use Rattle.bor_program.proofs.migrate.migrate.Goals as goal
 
 pub returns-in-Ok-clause-done : goal.returns-in-Ok-clause-done

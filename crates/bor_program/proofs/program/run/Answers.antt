@@ -2,17 +2,17 @@ use Rattle.std.proofs.Common.{◌∙◌, [], ap, map, refl, sym}
 use Rattle.bor_program.specs.Program.{exit_code}
 use Rattle.bor_program.proofs.Ends.{cut_unwritten, keeps_same, memory_is_no_help, whatever}
 use Rattle.bor_program.proofs.KnownWords.{only_memory, usage_of, wrong_words}
-use Rattle.bor_program.proofs.Performed.{no_fault, refusal, took}
+use Rattle.bor_program.proofs.Performed.{says, took}
 use Rattle.bor_program.proofs.program.run.Goals as goal
 
 pub returns-in-Ok-clause-taken : goal.returns-in-Ok-clause-taken
 returns-in-Ok-clause-taken g c = took _ _ c.in-Ok.command _ _ _ c.perform.ensures.done
 
 pub returns-in-Ok-clause-refused : goal.returns-in-Ok-clause-refused
-returns-in-Ok-clause-refused g c one = (c.in-Ok.ensures.ok, refusal _ _ c.in-Ok.command _ _ _ (sym c.code.ensures ∙ one) c.perform.ensures.done)
+returns-in-Ok-clause-refused g c one = (c.in-Ok.ensures.ok, (says _ _ c.in-Ok.command _ _ _ c.perform.ensures.done).0 (sym c.code.ensures ∙ one))
 
 pub returns-in-Ok-clause-usage : goal.returns-in-Ok-clause-usage
-returns-in-Ok-clause-usage g c two = absurd (no_fault _ _ c.in-Ok.command _ _ _ (sym c.code.ensures ∙ two) c.perform.ensures.done)
+returns-in-Ok-clause-usage g c two = absurd ((says _ _ c.in-Ok.command _ _ _ c.perform.ensures.done).1 (sym c.code.ensures ∙ two))
 
 pub returns-in-Err-clause-check : goal.returns-in-Err-clause-check
 returns-in-Err-clause-check g c asked =

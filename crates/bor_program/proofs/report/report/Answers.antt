@@ -1,7 +1,6 @@
 use Rattle.std.proofs.Common.{◌≡◌, ◌∙◌, ap, arith, inl, inr, sym}
 use Rattle.bor_program.specs.Program.{exit_code}
-use Rattle.bor_program.proofs.Ends.{keeps_same}
-use Rattle.bor_program.proofs.MetFailures.{cut_text, fails_to_open, met_opened, met_opening, no_failure, no_text, tells_cut}
+use Rattle.bor_program.proofs.Ends.{keeps_same, cut_text, fails_to_open, met_opened, met_opening, no_failure, no_text, tells_cut}
 use Rattle.bor_program.proofs.report.report.Goals as goal
 
 pub returns-in-Ok-told-clause-done : goal.returns-in-Ok-told-clause-done

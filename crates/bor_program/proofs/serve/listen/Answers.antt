@@ -1,5 +1,4 @@
-use Rattle.std.proofs.Common.{◌≡◌, ◌⊎◌, inl, inr, ℕ, Bool, true, false, subst, sym}
-use Rattle.std.specs.Prelude.{if◌then◌else◌}
+use Rattle.std.proofs.Common.{◌≡◌, ◌⊎◌, inl, inr, ℕ, Bool, true, false, subst, sym, if◌then◌else◌}
 use Rattle.bor_program.specs.Connections.Serving.{IsServedOver}
 use Rattle.bor_program.specs.Connections.Streams.{EndedOn, wire_of}
 use Rattle.bor_program.proofs.serve.listen.Goals as goal

@@ -1,7 +1,6 @@
 use Rattle.std.proofs.Common.{◌≡◌, ap, inl, inr}
 use Rattle.bor_program.specs.Program.{exit_code}
-use Rattle.bor_program.proofs.Ends.{keeps_same}
-use Rattle.bor_program.proofs.MetFailures.{fails_to_open}
+use Rattle.bor_program.proofs.Ends.{keeps_same, fails_to_open}
 use Rattle.bor_program.proofs.serve.serve.Goals as goal
 
 pub returns-in-Ok-served-clause-done : goal.returns-in-Ok-served-clause-done

@@ -1,6 +1,5 @@
-use Rattle.std.proofs.Common.{rules, ◌≡◌, ◌++◌, ◌∙◌, ap, arith, codes, false, map, string_bytes, true, List, ℕ, [], ◌∷◌}
+use Rattle.std.proofs.Common.{rules, ◌≡◌, ◌++◌, ◌∙◌, ap, arith, codes, false, map, string_bytes, true, List, ℕ, [], ◌∷◌, bytes_eq}
 use Rattle.std.proofs.lemmas.List.{map-append}
-use Rattle.std.specs.Str.{bytes_eq}
 use Rattle.bor_words.specs.Joined.{is_value, takes_value}
 use Rattle.bor_words.proofs.HyphenLemmas.{value_more}
 use Rattle.bor_words.proofs.hyphens.push_joined.Goals as goal

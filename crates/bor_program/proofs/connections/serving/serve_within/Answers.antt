@@ -3,8 +3,7 @@ use Rattle.bor_program.specs.Connections.Servers.{AreHeld}
 use Rattle.bor_program.specs.Connections.Serving.{IsServedOver}
 use Rattle.bor_program.specs.Connections.Streams.{EndedOn, wire_of}
 use Rattle.bor_program.proofs.OnConnections.Running.{served_over}
-use Rattle.bor_program.proofs.OnConnections.Served.{served_by_any}
-use Rattle.bor_program.proofs.OnConnections.Servers.{begun}
+use Rattle.bor_program.proofs.OnConnections.Servers.{served_by_any, begun}
 use Rattle.bor_program.proofs.OnConnections.Watching.{does_tells}
 use Rattle.bor_program.proofs.connections.serving.serve_within.Goals as goal
 

@@ -1,12 +1,10 @@
-use Rattle.std.proofs.Common.{◌≡◌, ◌∙◌, Bool, ap, arith, false, refl, sym, true}
+use Rattle.std.proofs.Common.{◌∙◌, ap, arith, false, refl, sym}
+use Rattle.std.proofs.lemmas.Bool.{both_ways}
 use Rattle.bor_program.specs.declared.connections.phase.Pace.TheVariants.{Blocked}
 use Rattle.bor_program.specs.declared.connections.phase.Step.TheVariants.{Goes}
 use Rattle.bor_program.specs.Connections.Phases.{stand_at, telling}
 use Rattle.bor_program.proofs.OnConnections.Phases.{begun_on, idle_on, reads_same, reads_then, then_steps}
 use Rattle.bor_program.proofs.connections.step.steps.Goals as goal
-
-unready : (is_ready : Bool) → is_ready ≡ false → is_ready ≡ true → ⊥
-unready is_ready is isnt = cc
 
 pub returns-in-Ends-clause-step : goal.returns-in-Ends-clause-step
 returns-in-Ends-clause-step g c =
@@ -25,7 +23,7 @@ loop-preserved g c = record {
       (stand_at c.step.new.keep (telling c.in-Goes.next) c.step.new.service.notes.items)
       c.loop.invariant.step c.in-Goes.ensures.step;
   all = reads_then g.S.Read.remaining c.args.phase c.loop.phase c.in-Goes.next c.loop.invariant.all c.in-Goes.ensures.all;
-  still = λ is. absurd (unready c.loop.timing.is_ready (ap (λ t. t.is_ready) (c.loop.invariant.still is).2 ∙ is) (sym c.is_ready.ensures ∙ c.if-not-is_ready.false));
+  still = λ is. absurd (both_ways c.loop.timing.is_ready (ap (λ t. t.is_ready) (c.loop.invariant.still is).2 ∙ is) (sym c.is_ready.ensures ∙ c.if-not-is_ready.false));
   idle = idle_on c.args.phase c.loop.phase c.in-Goes.next c.in-Goes.pace c.args.timing.now.idle_since c.loop.timing.idle_since _ c.args.now c.loop.invariant.idle c.in-Goes.ensures.pace c.pass.ensures.idle c.pass.ensures.busy;
   begun = begun_on c.args.phase c.loop.phase c.in-Goes.next c.in-Goes.pace c.args.timing.now.since c.loop.timing.since _ c.loop.invariant.begun c.in-Goes.ensures.turn c.pass.ensures.begins c.pass.ensures.begun;
   time = λ taking is. c.in-Goes.ensures.time taking (c.loop.invariant.time taking is);
@@ -52,7 +50,7 @@ returns-then-not-is_ready-clause-still g c = λ is.
 
 pub returns-in-Ends-clause-still : goal.returns-in-Ends-clause-still
 returns-in-Ends-clause-still g c = λ is.
-    absurd (unready c.loop.timing.is_ready (ap (λ t. t.is_ready) (c.loop.invariant.still is).2 ∙ is) (sym c.is_ready.ensures ∙ c.if-not-is_ready.false))
+    absurd (both_ways c.loop.timing.is_ready (ap (λ t. t.is_ready) (c.loop.invariant.still is).2 ∙ is) (sym c.is_ready.ensures ∙ c.if-not-is_ready.false))
 
 pub returns-clause-still : goal.returns-clause-still
 returns-clause-still g c = λ is. absurd (omega (arith, c.loop-test.false, (c.loop.invariant.still is).0))

@@ -1,7 +1,7 @@
 use Rattle.std.proofs.Common.{◌≡◌, ◌≤◌, ◌*◌, ◌/◌, ◌-◌, ◌∙◌, ap, arith, inl, inr, min}
 use Rattle.std.proofs.lemmas.Bool.{cases_lt}
 use Rattle.std.specs.Duration.{as_nanos, max_nanos}
-use Rattle.bor_program.proofs.OnConnections.Times.{floor_before, floor_behind, no_floor, spare_is}
+use Rattle.bor_program.proofs.OnConnections.Waits.{floor_before, floor_behind, no_floor, spare_is}
 use Rattle.bor_program.proofs.connections.taking.above_floor.Goals as goal
 
 pub returns-clause-before : goal.returns-clause-before

@@ -1,5 +1,4 @@
-use Rattle.std.proofs.Common.{◌≡◌, take}
-use Rattle.std.specs.List.{count_by}
+use Rattle.std.proofs.Common.{◌≡◌, take, count_by}
 use Rattle.bor_program.proofs.connections.seats.Seats.take.Given as goal
 
 -- all places before this one are taken

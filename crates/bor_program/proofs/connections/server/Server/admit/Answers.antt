@@ -1,5 +1,4 @@
-use Rattle.std.proofs.Common.{◌+◌, ◌∙◌, ◌<◌, [], ap, arith, false, inl, inr, refl, set, subst, sym, true}
-use Rattle.std.specs.VecDeque.{deque_capacity, deque_len}
+use Rattle.std.proofs.Common.{◌+◌, ◌∙◌, ◌<◌, [], ap, arith, false, inl, inr, refl, set, subst, sym, true, deque_capacity, deque_len}
 use Rattle.bor_program.specs.Connections.Serving.{Unanswered}
 use Rattle.bor_program.specs.Connections.Servers.{AreSeated, telling_in, pending_in}
 use Rattle.bor_program.proofs.OnConnections.Places.{set_back}

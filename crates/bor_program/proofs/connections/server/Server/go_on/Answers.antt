@@ -1,7 +1,7 @@
 use Rattle.std.proofs.Common.{◌≡◌, ◌≤◌, ◌∙◌, Some, ap, arith, subst, sym, true}
 use Rattle.std.specs.Duration.{as_nanos}
 use Rattle.bor_program.specs.Connections.Servers.{IsNoLonger}
-use Rattle.bor_program.proofs.OnConnections.Waits.{left_begun, shorter_of, waiting_none, waiting_one}
+use Rattle.bor_program.proofs.OnConnections.Waits.{left_begun, shorter_of, waiting_one}
 use Rattle.bor_program.proofs.connections.server.Server.go_on.Goals as goal
 use Rattle.bor_program.proofs.connections.server.Server.go_on.Goals.{then-is_ready, else-is_ready}
 
@@ -36,8 +36,3 @@ returns-after-is_ready-clause-waits g c =
       within = omega (arith, less.1, near.0);
       ready = λ is. omega (arith, less.1, near.1 (c.is_ready.ensures ∙ is));
     }) c.stay.ensures.stays.either
-
-pub returns-in-None-clause-waits : goal.returns-in-None-clause-waits
-returns-in-None-clause-waits g c =
-    let over = c.give_up.ensures in
-    waiting_none _ c.args.self.now.queue.items c.args.self.now c.give_up.new.self over.rest.limits over.rest.wait (ap (λ q. q.items) over.queue)

@@ -1,8 +1,7 @@
 use Rattle.std.proofs.Common.{◌∙◌, [], arith, inl, inr, refl, subst, sym}
 use Rattle.std.proofs.lemmas.Bool.{cases_lt}
 use Rattle.bor_program.specs.Connections.Servers.{AsksWhoComes, HasRoom, IsNobodyToCome}
-use Rattle.bor_program.proofs.OnConnections.Running.{asks_on}
-use Rattle.bor_program.proofs.OnConnections.Running.{lets_in_same, lets_in_then}
+use Rattle.bor_program.proofs.OnConnections.Running.{asks_on, lets_in_same, lets_in_then}
 use Rattle.bor_program.proofs.connections.server.Server.let_in.Goals as goal
 use Rattle.bor_program.proofs.connections.server.Server.let_in.Goals.{then-self-eq0-via-then-self-eq0, then-self-eq0-via-else-self-eq0+then-not-is_called}
 

@@ -1,6 +1,5 @@
-use Rattle.std.proofs.Common.{◌<◌, false, inl, inr, true, ◌∷◌, ◌+◌, ◌-◌, [], ℕ, arith, ap, length, refl, subst, sym}
+use Rattle.std.proofs.Common.{◌<◌, false, inl, inr, true, ◌∷◌, ◌+◌, ◌-◌, [], ℕ, arith, ap, length, refl, subst, sym, deque_capacity, deque_len}
 use Rattle.std.proofs.lemmas.Grind.{common_steps}
-use Rattle.std.specs.VecDeque.{deque_capacity, deque_len}
 use Rattle.bor_program.specs.Connections.Servers.{AreHeld, pending_in, telling_in, telling_to}
 use Rattle.bor_program.specs.Connections.Streams.{wire_of}
 use Rattle.bor_program.specs.Connections.Watching.{Accepts, Nobody, Refused, Somebody, Watches}

@@ -2,11 +2,7 @@ use Rattle.std.proofs.Common.{◌<◌, arith, ap, length}
 use Rattle.std.proofs.lemmas.List.Edits.{length-remove}
 use Rattle.std.proofs.lemmas.List.Sums.{count_by-le-length}
 use Rattle.bor_program.proofs.OnConnections.Places.{as_many}
-use Rattle.bor_program.proofs.OnConnections.Servers.{lets_same}
 use Rattle.bor_program.proofs.connections.server.Server.make_way.Goals as goal
-
-pub returns-else-len-ge-PLACES-clause-lets : goal.returns-else-len-ge-PLACES-clause-lets
-returns-else-len-ge-PLACES-clause-lets g c = lets_same _ c.args.self.now c.requires.held
 
 pub returns-then-len-ge-PLACES-clause-free : goal.returns-then-len-ge-PLACES-clause-free
 returns-then-len-ge-PLACES-clause-free g c =

@@ -6,7 +6,6 @@ use Rattle.bor_program.specs.Connections.Times.{IsBegun, IsOverdue, IsTaking, Is
 use Rattle.bor_program.proofs.OnConnections.Phases.{reads_then}
 use Rattle.bor_program.proofs.OnConnections.Servers.{lets_go_same}
 use Rattle.bor_program.proofs.OnConnections.Remaining.{names_none}
-use Rattle.bor_program.proofs.OnConnections.Waits.{waiting_none}
 use Rattle.bor_program.proofs.connections.server.Server.serve.Goals as goal
 
 pub returns-in-Goes-clause-serves : goal.returns-in-Goes-clause-serves
@@ -43,11 +42,6 @@ returns-in-Goes-clause-begun g c = λ last is.
     let stepped : IsBegun (turns_of client.phase) (turns_of c.in-Goes.phase) client.timing.since since =
     rw (sym c.look-phase.ensures.on, sym c.rouse.ensures.begun) c.in-Goes.ensures.begun in
     (since, subst (λ p. IsBegun (turns_of client.phase) (turns_of p) client.timing.since since) (sym (c.go_on.ensures.time.same last is)) stepped, c.go_on.ensures.time.begun last is)
-
-pub returns-in-Ends-clause-waits : goal.returns-in-Ends-clause-waits
-returns-in-Ends-clause-waits g c =
-    let over = c.give_up.ensures in
-    waiting_none _ c.args.self.now.queue.items c.args.self.now c.give_up.new.self over.rest.limits over.rest.wait (ap (λ q. q.items) over.queue)
 
 pub returns-in-Goes-clause-remains : goal.returns-in-Goes-clause-remains
 returns-in-Goes-clause-remains g c = λ still due room.

@@ -1,6 +1,5 @@
-use Rattle.std.proofs.Common.{◌≡◌, ◌-◌, ◌++◌, [], ap, arith, drop, length, take, refl, subst, sym, ◌∙◌}
+use Rattle.std.proofs.Common.{◌≡◌, ◌-◌, ◌++◌, [], ap, arith, drop, length, take, refl, subst, sym, ◌∙◌, length-drop}
 use Rattle.std.proofs.Math.Seq.{take-length}
-use Rattle.std.proofs.Math.ListN.{length-drop}
 use Rattle.std.proofs.lemmas.List.{nil_from_length}
 use Rattle.std.proofs.lemmas.List.Elements.{All-nil}
 use Rattle.bor_program.specs.Connections.Servers.{AllRemain, AreWaitedFor}

@@ -1,11 +1,9 @@
-use Rattle.std.specs.VecDeque.{deque_capacity, deque_len}
 use Rattle.bor_program.specs.Connections.Servers.{IsQueuedBehind, IsStill}
 use Rattle.bor_program.specs.Connections.Times.{IsOverdue}
 use Rattle.std.proofs.lemmas.Grind.{common_steps}
-use Rattle.std.proofs.Common.{◌≡◌, ◌<◌, ◌∷◌, arith, length, subst, ◌++◌, sym, ◌∙◌, ap, drop}
+use Rattle.std.proofs.Common.{◌≡◌, ◌<◌, ◌∷◌, arith, length, subst, ◌++◌, sym, ◌∙◌, ap, deque_capacity, deque_len}
 use Rattle.bor_program.specs.Connections.Streams.{wire_of}
 use Rattle.bor_program.proofs.OnConnections.Servers.{in_hand, lets_go_same}
-use Rattle.bor_program.proofs.OnConnections.Waits.{waiting_none}
 use Rattle.bor_program.proofs.connections.server.Server.serve_next.Goals as goal
 
 pub returns-in-Some-now-clause-advances : goal.returns-in-Some-now-clause-advances
@@ -26,12 +24,6 @@ pub returns-in-None-clause-seated : goal.returns-in-None-clause-seated
 returns-in-None-clause-seated g c =
     let seated = rw c.in-Some.ensures.items at c.requires.seated in
     rw (c.give_up.ensures.leaves, c.give_up.ensures.queue) seated.1
-
-pub returns-in-None-clause-waits : goal.returns-in-None-clause-waits
-returns-in-None-clause-waits g c =
-    let over = c.give_up.ensures in
-    waiting_none _ (drop 1 c.args.self.now.queue.items) c.args.self.now c.give_up.new.self over.rest.limits over.rest.wait
-    (ap (λ q. q.items) over.queue ∙ c.pop_front.ensures.rest)
 
 pub returns-in-Some-now-clause-remains : goal.returns-in-Some-now-clause-remains
 returns-in-Some-now-clause-remains g c = λ now client rest is first still due.

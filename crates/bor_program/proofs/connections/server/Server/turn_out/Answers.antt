@@ -1,5 +1,4 @@
-use Rattle.std.proofs.Common.{◌≡◌, ◌<◌, ◌+◌, ◌++◌, length, arith, refl, subst}
-use Rattle.std.specs.Prelude.{remove}
+use Rattle.std.proofs.Common.{◌≡◌, ◌<◌, ◌+◌, ◌++◌, length, arith, refl, subst, remove}
 use Rattle.bor_program.specs.Connections.Phases.{telling}
 use Rattle.bor_program.specs.Connections.Servers.{Lets, pending_in, telling_in, telling_to}
 use Rattle.bor_program.specs.Connections.Streams.{wire_of}
@@ -25,9 +24,6 @@ returns-in-Some-clause-lets g c =
     let count : length (remove old.queue.items c.longest_idle-index.result) + old.left + 1 ≡ pending_in old = omega (arith, t.count) in
     lets_of _ (telling c.in-Some.client.phase ++ telling_to (remove old.queue.items c.longest_idle-index.result)) (telling_in old) (pending_in old) 0 old.status c.give_up.new.self t.once
     (subst (λ n. Lets (wire_of g.S.Read.remaining g.S.Write.contents) (telling c.in-Some.client.phase ++ telling_to (remove old.queue.items c.longest_idle-index.result)) n 0 old.status c.give_up.new.self) count lets)
-
-pub returns-in-Some-clause-way : goal.returns-in-Some-clause-way
-returns-in-Some-clause-way g c = λ some. (c.longest_idle-index.result, c.longest_idle-index.ensures some, rw c.give_up.ensures.queue c.in-Some.ensures.items)
 
 pub returns-in-Some-clause-seated : goal.returns-in-Some-clause-seated
 returns-in-Some-clause-seated g c =

@@ -2,7 +2,7 @@ use Rattle.std.proofs.Common.{◌≡◌, ◌∙◌, ap, inl, subst, sym}
 use Rattle.bor_records.specs.Promises.{Promised}
 use Rattle.bor_wire.specs.Exchanges.{NamesWhoAsks}
 use Rattle.bor_program.specs.Logging.{IsNoteOf, MayNote}
-use Rattle.bor_program.proofs.Logged.{may_add}
+use Rattle.bor_program.proofs.OnConnections.Servers.{may_add}
 use Rattle.bor_program.proofs.connections.service.Service.respond.Goals as goal
 use Rattle.bor_program.proofs.connections.service.Service.respond.Goals.{then-is_none+in-Some-1, then-is_none+in-None-1, else-is_none, in-Some-asked, in_default}
 

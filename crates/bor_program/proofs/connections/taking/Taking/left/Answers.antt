@@ -1,4 +1,4 @@
-use Rattle.bor_program.proofs.OnConnections.Times.{slow_behind}
+use Rattle.bor_program.proofs.OnConnections.Waits.{slow_behind}
 use Rattle.std.proofs.Common.{◌∙◌, ◌-◌, ap}
 use Rattle.std.specs.Duration.{as_nanos}
 use Rattle.bor_program.proofs.connections.taking.Taking.left.Goals as goal
