@@ -15,7 +15,7 @@ HALVED, IDLE = 60, 0.5
 # How much longer it may take while nothing is known.
 DOUBT = 0.75
 # All wait for chains of at least this part of the longest one.
-LONG = 0.9
+LONG = 0.8
 
 
 def processors_for(jobs):

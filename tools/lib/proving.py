@@ -90,8 +90,8 @@ class Progress:
     def __init__(self, rt, crates):
         self.lanes, self.more = lanes_of(rt), more_jobs(rt)
         took = times()
-        # the crates that are being proved, with how many jobs
-        self.running, self.turn = {}, threading.RLock()
+        # the crates that are being proved, with how many jobs; and those that all others wait for
+        self.running, self.pressing, self.turn = {}, set(), threading.RLock()
         self.expected = {it.name: seconds(it, rt.rtlib, took) for it in crates}
         self.waits = {it.name: [below.name for below in it.below() if below in crates] for it in crates}
         self.countdown = Countdown(self.expected, self.waits, self.lanes, self.most(), time.monotonic())
@@ -113,18 +113,29 @@ class Progress:
             self.failed |= set() if is_proved else {name}
             self.tell()
 
-    def begin_in_turn(self, name, jobs):
-        """A crate is begun with so many jobs, or with all that it may get where the others wait for it. Gives whether
-        they do, and how many jobs these are."""
+    def begin_in_turn(self, name):
+        """A crate is begun, with one job, or with its share of the lanes where the others wait for it. Gives whether
+        they do, and how many jobs it has."""
         with self.turn:
             is_pressing = self.countdown.is_pressing(name)
-            jobs = max(jobs, self.most()) if is_pressing else jobs
+            jobs = min(self.most(), self.share(name)) if is_pressing else 1
+            if is_pressing:
+                self.pressing.add(name)
             self.begin(name, jobs)
             return is_pressing, jobs
 
     def most(self):
         """How many jobs one more crate may get, by the memory that the others leave."""
         return max(1, min(self.lanes, 1 + self.more - sum(jobs - 1 for jobs in self.running.values())))
+
+    def share(self, name):
+        """How many lanes a crate gets that all wait for: with those that may begin now it parts what such ones that are
+        running leave. Where there are more jobs than processors, a check with several takes up to twice their time."""
+        held = sum(jobs for it, jobs in self.running.items() if it in self.pressing)
+        begun = self.running.keys() | self.ended
+        ready = [it for it, below in self.waits.items() if it not in begun and self.ended.issuperset(below)]
+        others = sum(self.countdown.is_pressing(it) for it in ready if it != name)
+        return max(1, (self.lanes - held) // (1 + others))
 
     def tell(self):
         """Tells how far the work is, where that has changed: on a terminal in one line, else in a line each."""
@@ -162,6 +173,20 @@ def lanes_of(rt):
 def more_jobs(rt):
     """How many jobs more than one a lane the memory holds."""
     return max(0, int((rt.free() / MEMORY - lanes_of(rt)) / 0.6))
+
+
+@contextlib.contextmanager
+def one_lane_each(lanes):
+    """in_lanes takes so many crates at once: begun with more jobs than one, a crate would hold the lanes of others."""
+    before = os.environ.get("RT_JOBS")
+    os.environ["RT_JOBS"] = str(lanes)
+    try:
+        yield
+    finally:
+        if before is None:
+            del os.environ["RT_JOBS"]
+        else:
+            os.environ["RT_JOBS"] = before
 
 
 def give_way(call):
@@ -221,13 +246,13 @@ def prove_all(rt, crates, progress, failed):
     """
     tasks = {}
 
-    def one(crate, given, jobs):
+    def one(crate, given):
         if not all(given[it, "proof"] for it in progress.waits[crate.name]):
             progress.end(crate.name, False)
             return False
-        # All wait for the longest chains of what is left: a crate of one gets every processor, where that leaves
-        # memory for others. Any other crate gives way to it, and has the processors that no other one waits for.
-        is_pressing, jobs = progress.begin_in_turn(crate.name, jobs)
+        # All wait for the longest chains of what is left: the crates of these part the processors, where that leaves
+        # memory for others. Any other crate gives way to them, and has one job.
+        is_pressing, jobs = progress.begin_in_turn(crate.name)
         call = lambda: prove(rt, crate, progress, jobs)
         said = call() if is_pressing else give_way(call)
         if said is not None:
@@ -236,6 +261,7 @@ def prove_all(rt, crates, progress, failed):
 
     for crate in crates:
         waits = [(it, "proof") for it in progress.waits[crate.name]]
-        call = lambda given, jobs, it=crate: one(it, given, jobs)
+        call = lambda given, _jobs, it=crate: one(it, given)
         tasks[crate.name, "proof"] = (waits, progress.expected[crate.name], MEMORY, call)
-    return {name: is_proved for (name, _), is_proved in rt.in_lanes(tasks).items()}
+    with one_lane_each(progress.lanes):
+        return {name: is_proved for (name, _), is_proved in rt.in_lanes(tasks).items()}
