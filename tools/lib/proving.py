@@ -129,8 +129,8 @@ class Progress:
         return max(1, min(self.lanes, 1 + self.more - sum(jobs - 1 for jobs in self.running.values())))
 
     def share(self, name):
-        """How many lanes a crate gets that all wait for: with those that may begin now it parts what such ones that are
-        running leave. Where there are more jobs than processors, a check with several takes up to twice their time."""
+        """How many lanes a crate gets that all wait for. With those that may begin now it shares what such crates leave
+        that are running. Where there are more jobs than processors, a check with several takes up to twice their time."""
         held = sum(jobs for it, jobs in self.running.items() if it in self.pressing)
         begun = self.running.keys() | self.ended
         ready = [it for it, below in self.waits.items() if it not in begun and self.ended.issuperset(below)]
@@ -250,7 +250,7 @@ def prove_all(rt, crates, progress, failed):
         if not all(given[it, "proof"] for it in progress.waits[crate.name]):
             progress.end(crate.name, False)
             return False
-        # All wait for the longest chains of what is left: the crates of these part the processors, where that leaves
+        # All wait for the longest chains of what is left: the crates of these share the processors, where that leaves
         # memory for others. Any other crate gives way to them, and has one job.
         is_pressing, jobs = progress.begin_in_turn(crate.name)
         call = lambda: prove(rt, crate, progress, jobs)
