@@ -463,7 +463,7 @@ def sizes(count):
 
 
 def unmet(statuses, refusals):
-    """The statuses and refusals of the tables that no input met; an agent's 999 filings are asked by a row."""
+    """The statuses and refusals of the tables that no input met; that an agent's filings are full is asked by a row."""
     names = {name for names in REFUSALS.values() for name in names} - {"FilingsFull"}
     met = {status for status, times in statuses.items() if times}
     return sorted({200, 201, *REFUSALS} - met) + sorted(names - set(refusals))

@@ -177,7 +177,7 @@ impl Db {
             return if same { line(200, number as usize) } else { No(no(409, "KeyReused")) };
         }
         let count = self.count.first(&[Text(agent)], |row| row.number(0)).unwrap_or(0);
-        if count >= 999 { return No(no(409, "FilingsFull")); }
+        if count as usize >= FILINGS_LIMIT { return No(no(409, "FilingsFull")); }
         if due < day.as_str() { return No(no(422, "DuePast")); }
         let mut statements = match read::read(body) { Ok(statements) => statements, Err(refusal) => return No(refusal) };
         let has_id = |id: &str| self.id.first(&[Text(agent), Text(id)], |_| ()).is_some();

@@ -29,6 +29,7 @@ enum Details {
 }
 struct Statement { id: String, date: String, declaration: String, record: String, status: &'static str, kind: &'static str, details: Details }
 struct Filing { key: String, due: String, withdrawn: bool, bytes: Vec<u8>, statements: Vec<Statement> }
+const FILINGS_LIMIT: usize = 999; // of an agent, withdrawn ones included
 type Series = (String, String); // declaration and record
 type Node = (String, String, String); // agent, declaration and record
 
@@ -136,7 +137,7 @@ impl Register {
             let filing = &agent.filings[at];
             return if filing.due == due && filing.bytes == body { Ok((at, false)) } else { Err(no(409, "KeyReused")) };
         }
-        if agent.filings.len() >= 999 { return Err(no(409, "FilingsFull")); }
+        if agent.filings.len() >= FILINGS_LIMIT { return Err(no(409, "FilingsFull")); }
         if due < self.day.as_str() { return Err(no(422, "DuePast")); }
         let mut statements = read::read(body)?;
         settle(due, &mut statements, |id| agent.ids.contains(id), |series| agent.last(series))?;

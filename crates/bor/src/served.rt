@@ -27,7 +27,7 @@ impl<S: Alter + Drop, N: Notice + Drop> ServedRegister<S, N> {
     /// The register in these tables. A mirror that is made later holds at most so many live
     /// statements; the notice is given where it is let go.
     pub fn new(store: SqlKeep<S>, most: u32, notice: N) -> Self
-        ensures { result ≡ record { keep = (store, None) } }
+        ensures { result ≡ record { keep = (store, None, notice) } }
     {
         ServedRegister {
             keep: MirroredKeep::new(store, most, notice),

@@ -58,11 +58,11 @@ line_once : (a b : ℕ) (x y : List ℕ) → status_line a ++ x ≡ status_line 
 unfolding status_line
 line_once a b x y h = digits_once a b (ap (λ l. get_or l 9 0) h) (ap (λ l. get_or l 10 0) h) (ap (λ l. get_or l 11 0) h)
 
--- a reply begins with its status line
 -- a head is joined from its front
 front : (line type size own close end body : List ℕ) → (more : List ℕ) × ((line ++ type ++ size ++ own ++ close ++ end) ++ body ≡ line ++ more)
 front line type size own close end body = (type ++ (size ++ (own ++ (close ++ (end ++ body)))), simp append_assoc)
 
+-- a reply begins with its status line
 pub line_first : (said : Said) → HasStatus (bytes_of said) (status_of said)
 unfolding head_bytes
 line_first said =

@@ -29,13 +29,17 @@ pub answer_of : {T : Type 0} (result : Result T StoreFault) → is_ok result ≡
 answer_of (Ok x) h = (x, refl)
 answer_of (Err e) h = let wrong : false ≡ true = h in absurd cc
 
-module _ {S W : Type 0} (meaning : Meaning S Register W StoreFault) where
+-- a fault in place of an answer
+abbrev pub fault_told : (T : Type 0) → StoreFault → Result T StoreFault
+fault_told T e = Err e
+
+module _ {S N W : Type 0} (meaning : Meaning S Register W StoreFault) where
   -- what the mirror answers, whose register stays
-  pub by_mirror : {T : Type 0} {P : Register → T → Type 0} {x : T} (self : S × Option Register) (store : S) (was now : Register) → (store, Some was) ≡ self → was ≡ now
-      → ((r : Register) → was ≡ bare_register r → P r x) → Reads (mirrored meaning) self (store, Some now) (Ok x) P
-  by_mirror {T} {P} {x} self store was now viewed same told =
-      subst (λ (k : S × Option Register). Reads (mirrored meaning) k (store, Some now) (Ok x) P) viewed
-      (subst (λ (m : Register). Reads (mirrored meaning) (store, Some was) (store, Some m) (Ok x) P) same
+  pub by_mirror : {T : Type 0} {P : Register → T → Type 0} {x : T} {n m : N} (self : S × Option Register × N) (store : S) (was now : Register) → (store, Some was, n) ≡ self → was ≡ now
+      → ((r : Register) → was ≡ bare_register r → P r x) → Reads (mirrored meaning) self (store, Some now, m) (Ok x) P
+  by_mirror {T} {P} {x} {n} {m} self store was now viewed same told =
+      subst (λ (k : S × Option Register × N). Reads (mirrored meaning) k (store, Some now, m) (Ok x) P) viewed
+      (subst (λ (r : Register). Reads (mirrored meaning) (store, Some was, n) (store, Some r, m) (Ok x) P) same
       (record {
         kept = record {
           began = λ clean. clean;
@@ -50,11 +54,11 @@ module _ {S W : Type 0} (meaning : Meaning S Register W StoreFault) where
       }))
 
   -- what the store answers
-  pub by_store : {T : Type 0} {P : Register → T → Type 0} {result : Result T StoreFault} (self : S × Option Register) (old new : S) (before after : Option Register) → (old, before) ≡ self → before ≡ after
-      → Reads meaning old new result P → Reads (mirrored meaning) self (new, after) result P
-  by_store {T} {P} {result} self old new before after viewed same reads =
-      subst (λ (k : S × Option Register). Reads (mirrored meaning) k (new, after) result P) viewed
-      (subst (λ (o : Option Register). Reads (mirrored meaning) (old, before) (new, o) result P) same
+  pub by_store : {T : Type 0} {P : Register → T → Type 0} {result : Result T StoreFault} {n m : N} (self : S × Option Register × N) (old new : S) (before after : Option Register) → (old, before, n) ≡ self → before ≡ after
+      → Reads meaning old new result P → Reads (mirrored meaning) self (new, after, m) result P
+  by_store {T} {P} {result} {n} {m} self old new before after viewed same reads =
+      subst (λ (k : S × Option Register × N). Reads (mirrored meaning) k (new, after, m) result P) viewed
+      (subst (λ (o : Option Register). Reads (mirrored meaning) (old, before, n) (new, o, m) result P) same
       (record {
         kept = record {
           began = reads.kept.began;
@@ -68,13 +72,13 @@ module _ {S W : Type 0} (meaning : Meaning S Register W StoreFault) where
         answer = λ r shown clean. reads.answer r shown.0 clean;
       }))
     where
-      lasting : {X : Type 0} (answer : Result X StoreFault) → IfOk answer (λ x. StaysClean meaning old new) → IfOk answer (λ x. StaysClean (mirrored meaning) (old, before) (new, before))
+      lasting : {X : Type 0} (answer : Result X StoreFault) → IfOk answer (λ x. StaysClean meaning old new) → IfOk answer (λ x. StaysClean (mirrored meaning) (old, before, n) (new, before, m))
       lasting (Ok x) h = record { sound = h.sound; clean = h.clean }
       lasting (Err e) h = tt
 
   -- A read of either is one of the keep: a register without its files has what the mirror answers,
   -- and so has the register.
-  pub is_read : {T : Type 0} {P : Register → T → Type 0} {asks : Holding → Result T StoreFault → Holding → Type 0} {asks_store : S → Result T StoreFault → S → Type 0} {old new : S × Option Register} {result : Result T StoreFault}
+  pub is_read : {T : Type 0} {P : Register → T → Type 0} {asks : Holding → Result T StoreFault → Holding → Type 0} {asks_store : S → Result T StoreFault → S → Type 0} {old new : S × Option Register × N} {result : Result T StoreFault}
       → IsReadOfEither asks asks_store old new result
       → ((was is : Holding) (answer : Result T StoreFault) → asks was answer is → Reads in_memory was is answer P)
       → ((was is : S) (answer : Result T StoreFault) → asks_store was answer is → Reads meaning was is answer P)
@@ -84,8 +88,8 @@ module _ {S W : Type 0} (meaning : Meaning S Register W StoreFault) where
       let reads = mirrors said.was said.is (Ok x) said.asked in
       let stays : said.was.register ≡ said.is.register = sym ((reads.kept.same tt said.was.register).0 refl) in
       subst (λ (y : Result T StoreFault). Reads (mirrored meaning) old new y P) (sym told)
-      (subst (λ (k : S × Option Register). Reads (mirrored meaning) old k (Ok x) P) (λ i. (sym same i, sym said.holds i))
-      (by_mirror old old.0 said.was.register said.is.register (λ i. (old.0, sym said.held i)) stays
+      (subst (λ (k : S × Option Register × N). Reads (mirrored meaning) old k (Ok x) P) (λ i. (sym same i, sym said.holds i, new.2))
+      (by_mirror old old.0 said.was.register said.is.register (λ i. (old.0, sym said.held i, old.2)) stays
       (λ r bare. law r x (subst (λ (q : Register). P q x) bare (reads.answer said.was.register refl tt)))))
   is_read {T} {P} {asks = asks} {old = old} {new} {result} (of_store said mirror) mirrors stores law =
       by_store old old.0 new.0 old.1 new.1 refl (stays mirror) (stores old.0 new.0 result said)
@@ -94,13 +98,9 @@ module _ {S W : Type 0} (meaning : Meaning S Register W StoreFault) where
       stays (inl same) = sym same
       stays (inr (e, said)) = said.held ∙ ap (λ (q : Register). Some q) (sym (((mirrors said.was said.is (Err e) said.asked).kept.same tt said.was.register).0 refl)) ∙ sym said.holds
 
-  -- a fault in place of an answer
-  abbrev pub fault_told : (T : Type 0) → StoreFault → Result T StoreFault
-  fault_told T e = Err e
-
   -- what the store does, where the mirror follows
-  leaves_both : {Fits : Register → Type 0} {change : Register → Register} {old new : S} {before after : Option Register} → Leaves meaning old new (λ r left. Fits r → meaning.left_shows left (change r))
-      → Leaves (mirrored meaning) (old, before) (new, after) (λ r left. Fits r → meaning.left_shows left (change r))
+  leaves_both : {Fits : Register → Type 0} {change : Register → Register} {old new : S} {before after : Option Register} {n m : N} → Leaves meaning old new (λ r left. Fits r → meaning.left_shows left (change r))
+      → Leaves (mirrored meaning) (old, before, n) (new, after, m) (λ r left. Fits r → meaning.left_shows left (change r))
   leaves_both leaves = record {
     began = leaves.began;
     sound = leaves.sound;
@@ -111,12 +111,12 @@ module _ {S W : Type 0} (meaning : Meaning S Register W StoreFault) where
   }
 
   -- the store has answered
-  pub made_both : {T : Type 0} {x : T} (Fits : Register → Type 0) (change : Register → Register) (self : S × Option Register) (old new : S) (before after : Option Register) → (old, before) ≡ self
+  pub made_both : {T : Type 0} {x : T} {n m : N} (Fits : Register → Type 0) (change : Register → Register) (self : S × Option Register × N) (old new : S) (before after : Option Register) → (old, before, n) ≡ self
       → ((r : Register) → Fits r → Mirrors before r → Mirrors after (change r))
       → ChangesWhere meaning old new (Ok x) Fits change
-      → ChangesWhere (mirrored meaning) self (new, after) (Ok x) Fits change
-  made_both {T} {x} Fits change self old new before after viewed follows changes =
-      subst (λ (k : S × Option Register). ChangesWhere (mirrored meaning) k (new, after) (Ok x) Fits change) viewed
+      → ChangesWhere (mirrored meaning) self (new, after, m) (Ok x) Fits change
+  made_both {T} {x} {n} {m} Fits change self old new before after viewed follows changes =
+      subst (λ (k : S × Option Register × N). ChangesWhere (mirrored meaning) k (new, after, m) (Ok x) Fits change) viewed
       (record {
         leaves = leaves_both changes.leaves;
         lasts = record { sound = changes.lasts.sound; clean = changes.lasts.clean };
@@ -127,11 +127,11 @@ module _ {S W : Type 0} (meaning : Meaning S Register W StoreFault) where
       })
 
   -- the store has answered a fault, and the mirror stays
-  pub failed_both : {T : Type 0} {e : StoreFault} (Fits : Register → Type 0) (change : Register → Register) (self : S × Option Register) (old new : S) (before : Option Register) → (old, before) ≡ self
+  pub failed_both : {T : Type 0} {e : StoreFault} {n m : N} (Fits : Register → Type 0) (change : Register → Register) (self : S × Option Register × N) (old new : S) (before : Option Register) → (old, before, n) ≡ self
       → ChangesWhere meaning old new (fault_told T e) Fits change
-      → ChangesWhere (mirrored meaning) self (new, before) (fault_told T e) Fits change
-  failed_both {T} {e} Fits change self old new before viewed changes =
-      subst (λ (k : S × Option Register). ChangesWhere (mirrored meaning) k (new, before) (fault_told T e) Fits change) viewed
+      → ChangesWhere (mirrored meaning) self (new, before, m) (fault_told T e) Fits change
+  failed_both {T} {e} {n} {m} Fits change self old new before viewed changes =
+      subst (λ (k : S × Option Register × N). ChangesWhere (mirrored meaning) k (new, before, m) (fault_told T e) Fits change) viewed
       (record {
         leaves = leaves_both changes.leaves;
         lasts = tt;

@@ -18,9 +18,10 @@ IsFollowed before after Fits change =
 abbrev pub Mirrors : Option Register → Register → Type 0
 Mirrors mirror r = IfSome mirror (λ m. m ≡ bare_register r)
 
--- the meaning of a store with its mirror: that of the store, and the mirror mirrors what is shown
-abbrev pub mirrored : {S W : Type 0} → Meaning S Register W StoreFault
-    → Meaning (S × Option Register) Register W StoreFault
+-- the meaning of a store with its mirror and a notice: that of the store, and the mirror mirrors
+-- what is shown
+abbrev pub mirrored : {S N W : Type 0} → Meaning S Register W StoreFault
+    → Meaning (S × Option Register × N) Register W StoreFault
 mirrored meaning = record {
   shows = λ k r. meaning.shows k.0 r × Mirrors k.1 r;
   is_clean = λ k. meaning.is_clean k.0;

@@ -16,8 +16,8 @@ pub record HasAnswered {T : Type 0}
 
 -- The mirror has answered, and the store is as it was; or the store has, after a mirror that wasn't
 -- asked or had no memory for it.
-pub data IsReadOfEither {S T : Type 0} (asks : Holding → Result T StoreFault → Holding → Type 0)
-    (asks_store : S → Result T StoreFault → S → Type 0) (old new : S × Option Register)
+pub data IsReadOfEither {S N T : Type 0} (asks : Holding → Result T StoreFault → Holding → Type 0)
+    (asks_store : S → Result T StoreFault → S → Type 0) (old new : S × Option Register × N)
     (result : Result T StoreFault) : Type 0 where
   of_mirror : (x : T) → result ≡ Ok x → new.0 ≡ old.0 → HasAnswered asks old.1 new.1 (Ok x)
       → IsReadOfEither asks asks_store old new result

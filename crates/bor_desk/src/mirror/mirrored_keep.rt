@@ -47,9 +47,10 @@ impl<K: MirrorStore + Drop, N: Notice + Drop> Model for MirroredKeep<K, N> {
     ghost use Rattle.bor_register.specs.Memory.Holding.{Holding};
     ghost use Rattle.bor_register.specs.Register.{Register};
 
-    ghost Value = { K × Option Register };
+    ghost Value = { K × Option Register × N };
 
-    ghost view = { λ k. (k.store, option_map (λ (h : Holding). h.register) k.mirror) };
+    ghost view = { λ k.
+        (k.store, option_map (λ (h : Holding). h.register) k.mirror, k.notice) };
 
     // Where the mirror may tell who has a token, the store is open, if it has returned what was
     // written.
@@ -61,7 +62,7 @@ impl<K: MirrorStore + Drop, N: Notice + Drop> MirroredKeep<K, N> {
     /// The store, without a mirror. One that is made later holds at most so many live statements;
     /// the notice is given where it is let go.
     pub fn new(store: K, most: u32, notice: N) -> Self
-        ensures { result ≡ (store, None) }
+        ensures { result ≡ (store, None, notice) }
     {
         MirroredKeep {
             store,

@@ -34,7 +34,7 @@ invariant_of-self-2 g c = λ is_up sound. (elim c.if-self.branch [
 
 pub returns : goal.returns
 returns g c =
-    subst (λ k. IsReadOfEither (λ old x new. FnOnceReturnsAtMut g.M.FnOnce c.args.by_mirror old x new) (λ old x new. FnOnceReturnsAtMut g.S.FnOnce c.args.by_store old x new) k (c.by_store-told.new.arg2, register_in c.match-self.self-inside.mirror) c.by_store-told.result) c.self.view_is
+    subst (λ k. IsReadOfEither (λ old x new. FnOnceReturnsAtMut g.M.FnOnce c.args.by_mirror old x new) (λ old x new. FnOnceReturnsAtMut g.S.FnOnce c.args.by_store old x new) k (c.by_store-told.new.arg2, register_in c.match-self.self-inside.mirror, c.match-self.self-inside.notice) c.by_store-told.result) c.self.view_is
     (elim c.match-self.branch [
       | in-Some+in_default-by_mirror w ↦
           (let said : FnOnceReturnsAtMut g.M.FnOnce c.args.by_mirror w.in-Some.mirror (Err w.in_default-by_mirror.field-0) w.by_mirror.new.arg2 = record { shown = _; shows = refl; left = _; met = w.in_default-by_mirror.ensures; leaves = refl } in
@@ -47,5 +47,5 @@ returns g c =
 pub returns-in-Ok : goal.returns-in-Ok
 returns-in-Ok g c =
     let said : FnOnceReturnsAtMut g.M.FnOnce c.args.by_mirror c.in-Some.mirror (Ok c.in-Ok.answer) c.by_mirror.new.arg2 = record { shown = _; shows = refl; left = _; met = c.in-Ok.ensures; leaves = refl } in
-    subst (λ k. IsReadOfEither (λ old x new. FnOnceReturnsAtMut g.M.FnOnce c.args.by_mirror old x new) (λ old x new. FnOnceReturnsAtMut g.S.FnOnce c.args.by_store old x new) k (c.self.inside.store, Some c.by_mirror.new.arg2.register) (Ok c.in-Ok.answer)) c.self.view_is
+    subst (λ k. IsReadOfEither (λ old x new. FnOnceReturnsAtMut g.M.FnOnce c.args.by_mirror old x new) (λ old x new. FnOnceReturnsAtMut g.S.FnOnce c.args.by_store old x new) k (c.self.inside.store, Some c.by_mirror.new.arg2.register, c.self.inside.notice) (Ok c.in-Ok.answer)) c.self.view_is
     (of_mirror c.in-Ok.answer refl refl (record { was = _; is = _; asked = said; held = ap register_in c.in-Some.is; holds = refl }))

@@ -11,7 +11,7 @@ pub returns-in-Ok-clause-reads : goal.returns-in-Ok-clause-reads
 returns-in-Ok-clause-reads g c =
     by_mirror g.K.Keep.meaning
     c.args.self.now c.self.inside.store c.in-Some.mirror.register c.who.new.self.register
-    (ap (λ (o : Option Holding). (c.self.inside.store, register_in o)) (sym c.in-Some.is) ∙ c.self.view_is)
+    (ap (λ (o : Option Holding). (c.self.inside.store, register_in o, c.self.inside.notice)) (sym c.in-Some.is) ∙ c.self.view_is)
     (sym ((c.who.ensures.reads.kept.same tt c.in-Some.mirror.register).0 refl))
     (λ r e. c.in-Ok.ensures.reads.answer (bare_register r) e tt ∙ caller-bare c.args.token.now r)
 
@@ -30,4 +30,4 @@ returns-clause-reads g c =
     ] in
     by_store g.K.Keep.meaning
     c.args.self.now mid.store c.who-told.new.self (register_in c.self.inside.mirror) (register_in mid.mirror)
-    (let both : (mid.store, register_in c.self.inside.mirror) ≡ (c.self.inside.store, register_in c.self.inside.mirror) = cc in both ∙ c.self.view_is) same c.who-told.ensures.reads
+    (let both : (mid.store, register_in c.self.inside.mirror, c.self.inside.notice) ≡ (c.self.inside.store, register_in c.self.inside.mirror, c.self.inside.notice) = cc in both ∙ c.self.view_is) same c.who-told.ensures.reads
