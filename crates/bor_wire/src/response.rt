@@ -13,7 +13,7 @@ ghost use Rattle.bor_wire.specs.Answering.{GoesOutAs, GoesOutFor, Responds};
 ghost use Rattle.bor_wire.specs.Exchanges.{IsRefusal, IsRendered, IsToldFor, NamesWhoAsks, TellsAnswer, left_by_desk};
 
 use crate::rendering::{
-    RESERVED, desk_status, is_long, refusal_status, render, render_refusal, render_short,
+    RESERVED, desk_status, is_long, refusal_status, render_owned, render_refusal, render_short,
 };
 use crate::reply::Reply;
 use crate::spelling::{Asking, Paths, spelled};
@@ -70,20 +70,20 @@ fn asked<K: Keep>(
 }
 
 // The desk's reply in bytes, into room that was reserved for a short one.
-fn rendered(alloc: Global, mut out: Vec<u8>, reply: &DeskReply) -> Reply
+fn rendered(alloc: Global, mut out: Vec<u8>, reply: DeskReply) -> Reply
     requires room { reserved ≤ vec_capacity out }
     requires empty { out.items ≡ [] }
-    requires status { desk_status reply.now ≢ 503 }
-    ensures { IsRendered result reply.now }
+    requires status { desk_status reply ≢ 503 }
+    ensures { IsRendered result reply }
 {
-    let status = desk_status(reply).as_u16();
-    if is_long(reply) {
-        match render(alloc, reply) {
+    let status = desk_status(&reply).as_u16();
+    if is_long(&reply) {
+        match render_owned(alloc, reply) {
             Ok(bytes) => Reply::full(status, bytes),
             Err(_) => Reply::unavailable(),
         }
     } else {
-        render_short(&mut out, reply);
+        render_short(&mut out, &reply);
         Reply::full(status, out)
     }
 }
@@ -105,7 +105,7 @@ fn answered<K: Keep>(alloc: Global, keep: &mut K, asking: &Asking) -> Response
     match reply {
         Some(reply) => Response {
             agent,
-            reply: rendered(alloc, out, &reply),
+            reply: rendered(alloc, out, reply),
         },
         None => Response {
             agent,

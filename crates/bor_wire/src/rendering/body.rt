@@ -215,3 +215,13 @@ pub(crate) fn body_of(alloc: Global, reply: &DeskReply) -> Result<Vec<u8>, Alloc
         }
     }
 }
+
+/// The body of a reply that isn't needed any more: a file's own bytes, which aren't copied.
+pub(crate) fn into_body(alloc: Global, reply: DeskReply) -> Result<Vec<u8>, AllocError>
+    ensures { IfOk result (λ body. body.items ≡ desk_body reply) }
+{
+    match reply {
+        DeskReply::File(file) => Ok(file.into_vec()),
+        other => body_of(alloc, &other),
+    }
+}

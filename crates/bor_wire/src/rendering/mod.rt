@@ -29,4 +29,5 @@ mod short;
 mod shown;
 
 pub use head::{desk_status, refusal_status};
+pub(crate) use reply::render_owned;
 pub use reply::{RESERVED, UNAVAILABLE, is_long, render, render_refusal, render_short};

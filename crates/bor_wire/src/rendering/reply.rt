@@ -1,15 +1,16 @@
 //! Whole replies.
 
-ghost use Rattle.std.specs.Prelude.{◌≡◌, ◌≤◌, [], false, IfOk, vec_capacity};
+ghost use Rattle.std.specs.Prelude.{◌≡◌, ◌≤◌, [], false, None, IfOk, vec_capacity};
 ghost use Rattle.bor_desk.specs.Laws.{is_long};
 ghost use Rattle.bor_wire.specs.Rendering.Limits.{reserved};
-ghost use Rattle.bor_wire.specs.Rendering.Replies.{refused, answered, wrong_method, bytes_of};
+ghost use Rattle.bor_wire.specs.Rendering.Replies.{refused, answered, wrong_method, reply_bytes, bytes_of};
 
-use crate::rendering::body::body_of;
+use crate::rendering::body::{body_of, into_body};
 use crate::rendering::head::{HEAD_ROOM, desk_status, put_head_before, refusal_status};
 use crate::rendering::short::{put_body, put_wire_refusal};
 use bor_desk::DeskReply;
 use bor_http::incoming::{Path, Refusal};
+use http::StatusCode;
 use std::alloc::{AllocError, Global};
 
 /// The bytes to reserve for the reply to a change before the desk is asked: no such reply, and no
@@ -37,6 +38,15 @@ pub fn is_long(reply: &DeskReply) -> bool
     )
 }
 
+// A body with its head before it, in the body's own buffer.
+fn with_head(mut body: Vec<u8>, status: StatusCode) -> Result<Vec<u8>, AllocError>
+    ensures { IfOk result (λ out. out.items ≡ reply_bytes status None body.items) }
+{
+    body.reserve_exact(HEAD_ROOM)?;
+    put_head_before(&mut body, status, None);
+    Ok(body)
+}
+
 /// The bytes of what the desk replies, of whatever length.
 ///
 /// # Errors
@@ -45,10 +55,15 @@ pub fn is_long(reply: &DeskReply) -> bool
 pub fn render(alloc: Global, reply: &DeskReply) -> Result<Vec<u8>, AllocError>
     ensures { IfOk result (λ out. out.items ≡ bytes_of (answered reply.now)) }
 {
-    let mut out = body_of(alloc, reply)?;
-    out.reserve(HEAD_ROOM)?;
-    put_head_before(&mut out, desk_status(reply), None);
-    Ok(out)
+    with_head(body_of(alloc, reply)?, desk_status(reply))
+}
+
+/// The same of a reply that isn't needed any more: the bytes of a file become those of the reply.
+pub(crate) fn render_owned(alloc: Global, reply: DeskReply) -> Result<Vec<u8>, AllocError>
+    ensures { IfOk result (λ out. out.items ≡ bytes_of (answered reply)) }
+{
+    let status = desk_status(&reply);
+    with_head(into_body(alloc, reply)?, status)
 }
 
 /// Writes the bytes of what the desk replies to a change, or refuses, into room that was reserved.
