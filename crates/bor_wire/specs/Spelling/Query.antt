@@ -2,7 +2,7 @@
 use Rattle.std.specs.Prelude.{ℕ, Bool, List, map, find, count_by, Option, None, ◌==◌, if◌then◌else◌}
 use Rattle.std.specs.Option.{option_map}
 use Rattle.std.specs.Str.{bytes_eq, is_utf8}
-use Rattle.std.specs.String.{string_bytes}
+use Rattle.std.specs.Cow.{cow_str_bytes}
 use Rattle.std.specs.Str.Lossy.{utf8_lossy}
 use Rattle.form_urlencoded.specs.Form.{raw_pairs, decode}
 use Rattle.bor_wire.specs.declared.spelling.query.QueryPair.{QueryPair}
@@ -25,7 +25,7 @@ pairs_of query = map decoded (raw_pairs query)
 
 -- a pair that was read, without where it lies
 abbrev pub pair_text : QueryPair → TextPair
-pair_text pair = (string_bytes pair.name, string_bytes pair.value)
+pair_text pair = (cow_str_bytes pair.name, cow_str_bytes pair.value)
 
 abbrev pub pair_texts : List QueryPair → List TextPair
 pair_texts pairs = map pair_text pairs

@@ -29,7 +29,7 @@ pub struct Asking {
 
 // The record that a query names.
 #[tactic(auto, unfolding(crate::specs::Spelling::Steps::node_by_steps))]
-fn node_named(alloc: Global, pairs: &[QueryPair]) -> Result<Node, WireFault>
+fn node_named(alloc: Global, pairs: &[QueryPair<'_>]) -> Result<Node, WireFault>
     ensures { FindsStated (λ node. node) result (node_by_steps (pair_texts pairs.now)) }
 {
     Ok(Node {
@@ -41,7 +41,7 @@ fn node_named(alloc: Global, pairs: &[QueryPair]) -> Result<Node, WireFault>
 
 // The identifier that a query names.
 #[tactic(auto, unfolding(crate::specs::Spelling::Steps::identifier_by_steps))]
-fn identifier_named(alloc: Global, pairs: &[QueryPair]) -> Result<Identifier, WireFault>
+fn identifier_named(alloc: Global, pairs: &[QueryPair<'_>]) -> Result<Identifier, WireFault>
     ensures { FindsStated (λ identifier. identifier) result
         (identifier_by_steps (pair_texts pairs.now)) }
 {
@@ -55,7 +55,7 @@ fn identifier_named(alloc: Global, pairs: &[QueryPair]) -> Result<Identifier, Wi
 fn lodging_for(
     alloc: Global,
     path: &[u8],
-    pairs: &[QueryPair],
+    pairs: &[QueryPair<'_>],
     body: &[u8],
 ) -> Result<Request, WireFault>
     ensures { FindsStated (λ request. request) result
@@ -69,7 +69,7 @@ fn lodging_for(
 }
 
 #[tactic(auto, unfolding(crate::specs::Spelling::Steps::snapshot_by_steps))]
-fn snapshot_for(alloc: Global, pairs: &[QueryPair]) -> Result<Request, WireFault>
+fn snapshot_for(alloc: Global, pairs: &[QueryPair<'_>]) -> Result<Request, WireFault>
     ensures { FindsStated (λ request. request) result (snapshot_by_steps (pair_texts pairs.now)) }
 {
     Ok(Request::Agent(AgentRequest::Snapshot {
@@ -80,7 +80,7 @@ fn snapshot_for(alloc: Global, pairs: &[QueryPair]) -> Result<Request, WireFault
 }
 
 #[tactic(auto, unfolding(crate::specs::Spelling::Steps::enrolment_by_steps))]
-fn enrolment_for(alloc: Global, pairs: &[QueryPair], body: &[u8]) -> Result<Request, WireFault>
+fn enrolment_for(alloc: Global, pairs: &[QueryPair<'_>], body: &[u8]) -> Result<Request, WireFault>
     ensures { FindsStated (λ request. request) result
         (enrolment_by_steps (pair_texts pairs.now) body.now) }
 {

@@ -13,26 +13,31 @@ use bor_http::incoming::{Name, Refusal, WireFault};
 use bor_terms::{AgentName, Day, Ident};
 use form_urlencoded::{decode, raw_pairs};
 use std::alloc::{AllocError, Global};
+use std::borrow::CowStr;
 
-/// A name and its value, decoded.
+/// A name and its value, decoded. What stands for itself is borrowed from the query.
 #[derive(Drop)]
-pub(crate) struct QueryPair {
-    name: String,
-    value: String,
+pub(crate) struct QueryPair<'a> {
+    name: CowStr<'a, Global>,
+    value: CowStr<'a, Global>,
 }
 
 #[tactic(auto, using(crate::proofs::OnSpelling::Texts::texts))]
-fn decoded_pair(alloc: Global, name: &[u8], value: &[u8]) -> Result<QueryPair, AllocError>
+fn decoded_pair<'a>(
+    alloc: Global,
+    name: &'a [u8],
+    value: &'a [u8],
+) -> Result<QueryPair<'a>, AllocError>
     ensures { IfOk result (λ pair. pair_text pair ≡ decoded (name.now, value.now)) }
 {
     Ok(QueryPair {
-        name: decode(alloc, name)?.into_owned(alloc)?,
-        value: decode(alloc, value)?.into_owned(alloc)?,
+        name: decode(alloc, name)?,
+        value: decode(alloc, value)?,
     })
 }
 
 /// The pairs of a query.
-pub(crate) fn query_pairs(alloc: Global, query: &[u8]) -> Result<Vec<QueryPair>, AllocError>
+pub(crate) fn query_pairs(alloc: Global, query: &[u8]) -> Result<Vec<QueryPair<'_>>, AllocError>
     ensures { IfOk result (λ pairs. pair_texts pairs.items ≡ pairs_of query.now) }
 {
     let mut pairs = Vec::new(alloc);
@@ -43,7 +48,7 @@ pub(crate) fn query_pairs(alloc: Global, query: &[u8]) -> Result<Vec<QueryPair>,
 }
 
 // How often a name occurs.
-fn count_pairs(pairs: &[QueryPair], name: &str) -> usize
+fn count_pairs(pairs: &[QueryPair<'_>], name: &str) -> usize
     ensures { result ≡ how_often name.now (pair_texts pairs.now) }
 {
     let mut count = 0;
@@ -56,7 +61,7 @@ fn count_pairs(pairs: &[QueryPair], name: &str) -> usize
 }
 
 // The value of the first pair that has the name.
-fn first_value<'a>(pairs: &'a [QueryPair], name: &str) -> Option<&'a str>
+fn first_value<'a>(pairs: &'a [QueryPair<'_>], name: &str) -> Option<&'a str>
     ensures { option_map (λ value. value.now) result ≡ first_text name.now (pair_texts pairs.now) }
 {
     for pair in pairs {
@@ -68,7 +73,7 @@ fn first_value<'a>(pairs: &'a [QueryPair], name: &str) -> Option<&'a str>
 }
 
 // The value of the one pair that has the name, if there is exactly one.
-fn only_value<'a>(pairs: &'a [QueryPair], name: &str) -> Option<&'a str>
+fn only_value<'a>(pairs: &'a [QueryPair<'_>], name: &str) -> Option<&'a str>
     ensures { option_map (λ value. value.now) result ≡ only_text name.now (pair_texts pairs.now) }
 {
     if count_pairs(pairs, name) == 1 {
@@ -82,7 +87,7 @@ fn only_value<'a>(pairs: &'a [QueryPair], name: &str) -> Option<&'a str>
 #[tactic(auto, unfolding(crate::specs::Spelling::Parts::once))]
 pub(crate) fn agent_named(
     alloc: Global,
-    pairs: &[QueryPair],
+    pairs: &[QueryPair<'_>],
     name: Name,
 ) -> Result<AgentName, WireFault>
     ensures { FindsStated (λ agent. agent) result
@@ -101,7 +106,7 @@ pub(crate) fn agent_named(
 #[tactic(auto, unfolding(crate::specs::Spelling::Parts::once))]
 pub(crate) fn ident_named(
     alloc: Global,
-    pairs: &[QueryPair],
+    pairs: &[QueryPair<'_>],
     name: Name,
 ) -> Result<Ident, WireFault>
     ensures { FindsStated (λ ident. ident) result
@@ -120,7 +125,7 @@ pub(crate) fn ident_named(
 #[tactic(auto, unfolding(crate::specs::Spelling::Parts::once))]
 pub(crate) fn text_named(
     alloc: Global,
-    pairs: &[QueryPair],
+    pairs: &[QueryPair<'_>],
     name: Name,
 ) -> Result<FreeText, WireFault>
     ensures { FindsStated (λ text. text) result
@@ -137,7 +142,7 @@ pub(crate) fn text_named(
 
 /// The day of this name's value.
 #[tactic(auto, unfolding(crate::specs::Spelling::Parts::once))]
-pub(crate) fn day_named(pairs: &[QueryPair], name: Name) -> Result<Day, WireFault>
+pub(crate) fn day_named(pairs: &[QueryPair<'_>], name: Name) -> Result<Day, WireFault>
     ensures { FindsStated (λ day. day) result
         (named name (once day_of name (pair_texts pairs.now))) }
 {
@@ -152,7 +157,7 @@ pub(crate) fn day_named(pairs: &[QueryPair], name: Name) -> Result<Day, WireFaul
 
 /// The day of this name's value, or none where the name is missing.
 #[tactic(auto, unfolding(crate::specs::Spelling::Parts::at_most_once))]
-pub(crate) fn day_if_named(pairs: &[QueryPair], name: Name) -> Result<Option<Day>, WireFault>
+pub(crate) fn day_if_named(pairs: &[QueryPair<'_>], name: Name) -> Result<Option<Day>, WireFault>
     ensures { FindsStated (λ day. day) result
         (named name (at_most_once day_of name (pair_texts pairs.now))) }
 {
