@@ -7,7 +7,7 @@
 //!
 //! No field of an [`Entry`] can hold a token, a key, a query or a body, and none of a [`Note`].
 
-ghost use Rattle.std.specs.Prelude.{◌≡◌, ◌↔◌, ◌+◌, ◌/◌, ◌%◌, ◌≤◌, pos, IfOk, IfSome, IsSome, length};
+ghost use Rattle.std.specs.Prelude.{◌≡◌, ◌↔◌, ◌+◌, ◌/◌, ◌%◌, ◌≤◌, ◌++◌, pos, IfOk, IfSome, IsSome, OnOk, length};
 ghost use Rattle.bor_wire.specs.Sent.{bytes_sent, status_sent};
 ghost use Rattle.bor_program.specs.Logging.{agent_shown, asked_at, asked_of, asked_path_word, asked_text, clock_text, entry_line, method_word, moment_text, numbers_text};
 ghost use Rattle.bor_program.specs.Streams.{AppendsPart};
@@ -26,6 +26,9 @@ const SECONDS_A_DAY: u64 = 86_400;
 
 // 9999-12-31, in days since 1970-01-01.
 const LAST_DAY: u64 = 2_932_896;
+
+// The first room for a line, in which most fit.
+const FIRST_ROOM: usize = 128;
 
 /// The request of some bytes, as far as the log may show it.
 #[derive(Clone, Copy, PartialEq, Eq)]
@@ -207,39 +210,36 @@ fn clock_text(second: u32) -> [u8; 8]
     ]
 }
 
-// A moment, as ISO 8601 has it.
-fn moment_text(alloc: Global, at: Moment) -> Result<Vec<u8>, AllocError>
-    ensures { IfOk result (λ text. text.items ≡ moment_text at) }
+// Adds a moment to a line, as ISO 8601 has it.
+fn add_moment(line: &mut Vec<u8>, at: Moment) -> Result<(), AllocError>
+    ensures { OnOk result (line.new.items ≡ line.old.items ++ moment_text at) }
 {
-    let mut text = Vec::from_slice(alloc, &at.day.text())?;
-    text.extend_from_slice(b"T")?;
-    text.extend_from_slice(&clock_text(at.second))?;
-    text.extend_from_slice(b"Z")?;
-    Ok(text)
+    line.extend_from_slice(&at.day.text())?;
+    line.extend_from_slice(b"T")?;
+    line.extend_from_slice(&clock_text(at.second))?;
+    line.extend_from_slice(b"Z")
 }
 
-// The method and the path, with a space between them.
-fn asked_text(alloc: Global, asked: Asked) -> Result<Vec<u8>, AllocError>
-    ensures { IfOk result (λ text. text.items ≡ asked_text asked) }
+// Adds the method and the path, with a space between them.
+fn add_asked(line: &mut Vec<u8>, asked: Asked) -> Result<(), AllocError>
+    ensures { OnOk result (line.new.items ≡ line.old.items ++ asked_text asked) }
 {
     let (method, path) = asked.words();
-    let mut text = Vec::from_slice(alloc, method.as_bytes())?;
-    text.extend_from_slice(b" ")?;
-    text.extend_from_slice(path.as_bytes())?;
-    Ok(text)
+    line.extend_from_slice(method.as_bytes())?;
+    line.extend_from_slice(b" ")?;
+    line.extend_from_slice(path.as_bytes())
 }
 
-// Three numbers in decimal digits, with spaces between them.
-fn numbers_text(alloc: Global, status: u16, bytes: u64, millis: u64) -> Result<Vec<u8>, AllocError>
-    ensures { IfOk result (λ text. text.items ≡ numbers_text status bytes millis) }
+// Adds three numbers in decimal digits, with spaces between them.
+fn add_numbers(line: &mut Vec<u8>, status: u16, bytes: u64, millis: u64) -> Result<(), AllocError>
+    ensures { OnOk result (line.new.items ≡ line.old.items ++ numbers_text status bytes millis) }
 {
     let mut digits = Buffer::new();
-    let mut text = Vec::from_slice(alloc, digits.format(status).as_bytes())?;
-    text.extend_from_slice(b" ")?;
-    text.extend_from_slice(digits.format(bytes).as_bytes())?;
-    text.extend_from_slice(b" ")?;
-    text.extend_from_slice(digits.format(millis).as_bytes())?;
-    Ok(text)
+    line.extend_from_slice(digits.format(status).as_bytes())?;
+    line.extend_from_slice(b" ")?;
+    line.extend_from_slice(digits.format(bytes).as_bytes())?;
+    line.extend_from_slice(b" ")?;
+    line.extend_from_slice(digits.format(millis).as_bytes())
 }
 
 // The agent's name, or a hyphen.
@@ -261,12 +261,12 @@ fn agent_text<'a>(agent: Option<&'a AgentName>) -> &'a str
 pub fn entry_line(alloc: Global, entry: &Entry<'_>) -> Result<Vec<u8>, AllocError>
     ensures { IfOk result (λ line. line.items ≡ entry_line entry.now) }
 {
-    let mut line = moment_text(alloc, entry.at)?;
+    let mut line = Vec::with_capacity(alloc, FIRST_ROOM)?;
+    add_moment(&mut line, entry.at)?;
     line.extend_from_slice(b" ")?;
-    line.extend_from_slice(&asked_text(alloc, entry.asked)?)?;
+    add_asked(&mut line, entry.asked)?;
     line.extend_from_slice(b" ")?;
-    let numbers = numbers_text(alloc, entry.status, entry.bytes, entry.millis)?;
-    line.extend_from_slice(&numbers)?;
+    add_numbers(&mut line, entry.status, entry.bytes, entry.millis)?;
     line.extend_from_slice(b" ")?;
     line.extend_from_slice(agent_text(entry.agent).as_bytes())?;
     line.extend_from_slice(b"\n")?;
