@@ -137,8 +137,8 @@ fn make_room(received: &mut Vec<u8>, wanted: usize) -> Result<usize, AllocError>
     Ok((received.capacity() - len).min(wanted).min(PART))
 }
 
-// Reads once, at most as many bytes as there is room for. A part is cleared before it is read into,
-// so what fits into the first room is read into a small one.
+// Reads once, behind the bytes that were received, at most as many as there is room for. The room is
+// cleared before, and what didn't come is cut off again.
 fn receive<S: Read>(stream: &mut S, received: &mut Vec<u8>, room: usize) -> io::Result<usize>
     requires some { 0 < room }
     requires within { room ≤ 16384 }
@@ -149,32 +149,16 @@ fn receive<S: Read>(stream: &mut S, received: &mut Vec<u8>, room: usize) -> io::
         (λ _. Keeps (S.remaining stream.old) (S.remaining stream.new)
         × (received.new.items ≡ received.old.items)) }
 {
-    if room <= FIRST_ROOM {
-        let mut part = [0; FIRST_ROOM];
-        return receive_into(stream, received, &mut part[..room]);
+    let len = received.len();
+    received.resize(len + room, 0)?;
+    match stream.read(&mut received[len..]) {
+        Ok(count) => {
+            received.truncate(len + count);
+            Ok(count)
+        }
+        Err(error) => {
+            received.truncate(len);
+            Err(error)
+        }
     }
-    let mut part = [0; PART];
-    receive_into(stream, received, &mut part[..room])
-}
-
-// Reads once into the part, and adds what came to the bytes that were received.
-fn receive_into<S: Read>(
-    stream: &mut S,
-    received: &mut Vec<u8>,
-    part: &mut [u8],
-) -> io::Result<usize>
-    requires some { 0 < length part.old }
-    requires within { length part.old ≤ 16384 }
-    requires room { vec_len received.old + length part.old ≤ vec_capacity received.old }
-    ensures { MatchResult result
-        (λ n. Received (S.remaining stream.old)
-        (S.remaining stream.new) received.old.items received.new.items (length part.old) n)
-        (λ _. Keeps (S.remaining stream.old) (S.remaining stream.new)
-        × (received.new.items ≡ received.old.items)) }
-{
-    let count = stream.read(part)?;
-    if received.extend_from_slice(&part[..count]).is_err() {
-        unreachable!();
-    }
-    Ok(count)
 }
