@@ -21,14 +21,14 @@ struct Key {
 
 impl Key {
     // The key of a record.
-    fn of(alloc: Global, node: &Node) -> Result<Key, AllocError>
-        ensures { IfOk result (λ key. key ≡ key_of node.now) }
+    fn of(node: Node) -> Key
+        ensures { result ≡ key_of node }
     {
-        Ok(Key {
-            agent: node.agent.copy(alloc)?,
-            declaration: node.declaration.copy(alloc)?,
-            rec: node.rec.copy(alloc)?,
-        })
+        Key {
+            agent: node.agent,
+            declaration: node.declaration,
+            rec: node.rec,
+        }
     }
 
     // The record that has the key.
@@ -44,11 +44,18 @@ impl Key {
 }
 
 // Adds a record, unless it is there.
-fn add(alloc: Global, keys: &mut BTreeSet<Key>, node: &Node) -> Result<(), AllocError>
+fn add(keys: &mut BTreeSet<Key>, node: Node) -> Result<(), AllocError>
+    ensures { OnOk result (IsGained (λ n. n ≡ node) (nodes_in keys.old) (nodes_in keys.new)) }
+{
+    keys.insert(Key::of(node))?;
+    Ok(())
+}
+
+// Adds a copy of a record, unless it is there.
+fn add_copy(alloc: Global, keys: &mut BTreeSet<Key>, node: &Node) -> Result<(), AllocError>
     ensures { OnOk result (IsGained (λ n. n ≡ node.now) (nodes_in keys.old) (nodes_in keys.new)) }
 {
-    keys.insert(Key::of(alloc, node)?)?;
-    Ok(())
+    add(keys, node.copy(alloc)?)
 }
 
 // Adds records.
@@ -58,7 +65,7 @@ fn add_all(alloc: Global, keys: &mut BTreeSet<Key>, nodes: &[Node]) -> Result<()
         (nodes_in keys.old) (nodes_in keys.new)) }
 {
     for node in nodes {
-        add(alloc, keys, node)?;
+        add_copy(alloc, keys, node)?;
     }
     Ok(())
 }
@@ -74,7 +81,7 @@ fn add_persons(
         (nodes_in keys.old) (nodes_in keys.new)) }
 {
     for person in persons {
-        add(alloc, keys, &person.node)?;
+        add_copy(alloc, keys, &person.node)?;
     }
     Ok(())
 }
@@ -83,9 +90,9 @@ fn add_persons(
 fn add_link(alloc: Global, keys: &mut BTreeSet<Key>, line: &EvidenceLink) -> Result<(), AllocError>
     ensures { OnOk result (IsGained (IsOfLink line.now) (nodes_in keys.old) (nodes_in keys.new)) }
 {
-    add(alloc, keys, &record_of(alloc, &line.link)?)?;
-    add(alloc, keys, &line.link.subject)?;
-    add(alloc, keys, &line.link.party)
+    add(keys, record_of(alloc, &line.link)?)?;
+    add_copy(alloc, keys, &line.link.subject)?;
+    add_copy(alloc, keys, &line.link.party)
 }
 
 // Adds the records of links and those of their ends.
@@ -149,7 +156,7 @@ pub(crate) fn records_in(
     ensures { IfOk result (λ nodes. AreMentioned entity.now tree.now links.now nodes.items) }
 {
     let mut keys = BTreeSet::new(alloc);
-    add(alloc, &mut keys, entity)?;
+    add_copy(alloc, &mut keys, entity)?;
     add_persons(alloc, &mut keys, tree.persons.as_slice())?;
     add_links(alloc, &mut keys, tree.links.as_slice())?;
     add_sames(alloc, &mut keys, links)?;

@@ -7,8 +7,8 @@ use Rattle.bor_desk.proofs.evidence.keys.add_all.Goals as goal
 
 pub loop-node-preserved : goal.loop-node-preserved
 loop-node-preserved c =
-    gained_node c.args.nodes.now c.loop-node.node-index c.node-item.result (nodes_in c.args.keys.now) (nodes_in c.loop-node.keys) (nodes_in c.add.new.keys) (omega arith) c.node-item.is c.loop-node.invariant
-    c.in_ok-add.ensures
+    gained_node c.args.nodes.now c.loop-node.node-index c.node-item.result (nodes_in c.args.keys.now) (nodes_in c.loop-node.keys) (nodes_in c.add_copy.new.keys) (omega arith) c.node-item.is c.loop-node.invariant
+    c.in_ok-add_copy.ensures
 
 pub returns : goal.returns
 returns c =
