@@ -96,6 +96,16 @@ gained_node ns i m a b c lt is p q = gained_then (λ n. Contains (take i ns) n) 
     (λ n h. elim (Contains-take_more ns i m n lt h) [ inl k ↦ inl k | inr e ↦ inr (e ∙ sym is) ])
     (λ n h. elim h [ inl k ↦ Contains-take_front ns i m n lt k | inr e ↦ Contains-take_last ns i m n lt (e ∙ is) ]) p q
 
+-- one more after those that are all there is
+pub gained_next : (ns : List Node) (m : Node) (a b : List Node) → ((n : Node) → Contains a n ↔ Contains ns n) → IsGained (λ n. n ≡ m) a b → (n : Node) → Contains b n ↔ Contains (ns ++ m ∷ []) n
+gained_next ns m a b so p n = (
+  (λ h. elim (p.only n h) [
+    | inl old ↦ Contains-append_left ns (m ∷ []) n ((so n).0 old)
+    | inr e ↦ subst (λ (x : Node). Contains (ns ++ m ∷ []) x) (sym e) (Contains-push ns m)
+  ]),
+  (λ h. elim (Contains-push_cases ns m n h) [ inl old ↦ p.kept n ((so n).1 old) | inr e ↦ p.every n (sym e) ]),
+)
+
 -- a link's record, then its subject, then its party
 pub gained_link : (x : EvidenceLink) (r : Node) (a b c d : List Node) → r ≡ link_record x.link → IsGained (λ n. n ≡ r) a b → IsGained (λ n. n ≡ x.link.subject) b c → IsGained (λ n. n ≡ x.link.party) c d → IsGained (IsOfLink x) a d
 gained_link x r a b c d is p q t =

@@ -136,12 +136,14 @@ fn nodes_of(alloc: Global, keys: BTreeSet<Key>) -> Result<Vec<Node>, AllocError>
 }
 
 /// These records, each once, by agent, declaration and record.
-pub(crate) fn in_order(alloc: Global, nodes: &[Node]) -> Result<Vec<Node>, AllocError>
-    ensures each { IfOk result (λ out. (n : Node) → Contains out.items n ↔ Contains nodes.now n) }
+pub(crate) fn in_order(alloc: Global, nodes: Vec<Node>) -> Result<Vec<Node>, AllocError>
+    ensures each { IfOk result (λ out. (n : Node) → Contains out.items n ↔ Contains nodes.items n) }
     ensures sorted { IfOk result (λ out. IsStrictlySortedBy reading_cmp out.items) }
 {
     let mut keys = BTreeSet::new(alloc);
-    add_all(alloc, &mut keys, nodes)?;
+    for node in nodes {
+        add(&mut keys, node)?;
+    }
     nodes_of(alloc, keys)
 }
 

@@ -158,7 +158,7 @@ pub(crate) fn entities_seen<K: Keep>(
     ensures accounted { Accounts K.meaning keep.old keep.new (store_fault Some result) }
 {
     let found = keep.identified(viewer, day, identifier)?;
-    let nodes = in_order(alloc, &found)?;
+    let nodes = in_order(alloc, found)?;
     records_seen(alloc, keep, viewer, day, &nodes)
 }
 

@@ -27,9 +27,8 @@ returns-clause-answer g c = λ r is clean.
     subst (λ (s : Shown). AreIdentified s i found) (sym (numbers_make_no_links day viewer r)) (c.in_ok-found.ensures.answer r is began) in
     let order = c.in_ok-nodes.ensures in
     let each : (n : Node) → Contains nodes n ↔ Identified (shown_of day seen) i n = λ n.
-    let same = subst (λ (ns : List Node). Contains nodes n ↔ Contains ns n) c.deref.ensures.value (order.each n) in
-    ((λ h. (are.each n).0 (same.0 h)), (λ h. same.1 ((are.each n).1 h))) in
+    ((λ h. (are.each n).0 ((order.each n).0 h)), (λ h. (order.each n).1 ((are.each n).1 h))) in
     told_then c.records_seen.result _ _
-    (λ records h. subst (λ (xs : List RecordEvidence). AreRecords day seen (Identified (shown_of day seen) i) xs) (sym (h ∙ ap (λ (ns : List Node). records_at day seen ns) c.deref-2.ensures.value))
+    (λ records h. subst (λ (xs : List RecordEvidence). AreRecords day seen (Identified (shown_of day seen) i) xs) (sym (h ∙ ap (λ (ns : List Node). records_at day seen ns) c.deref.ensures.value))
     (records_of day seen (Identified (shown_of day seen) i) nodes (identified_open day seen i) each order.sorted))
     (read.answer r ((asked.kept.same began r).0 is) clean)
