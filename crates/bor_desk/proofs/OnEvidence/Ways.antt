@@ -361,10 +361,10 @@ ways_none s goal w level empty one alone none_there put kin = record {
 }
 
 -- ways are put at a goal
-pub goals_put : (s : Shown) (a b : Node → Option Ways) (key target : Node) (ways : Ways) → key ≡ target → ((q : Node) → b q ≡ cond (is_eq (node_cmp key q)) (Some ways) (a q))
-    → ((goal : Node) (w : Ways) → a goal ≡ Some w → AreWaysTo s goal w) → AreWaysTo s target ways → (goal : Node) (w : Ways) → b goal ≡ Some w → AreWaysTo s goal w
-goals_put s a b key target ways same put known to goal w is = elim (put_at key goal (b goal) (Some ways) (a goal) (put goal)) [
-  | inl p ↦ subst (λ (n : Node). AreWaysTo s n w) (sym same ∙ p.0) (subst (λ (v : Ways). AreWaysTo s target v) (same_Some ways w (sym p.1 ∙ is)) to)
+pub goals_put : (s : Shown) (a b : Node → Option Ways) (key : Node) (ways : Ways) → ((q : Node) → b q ≡ cond (is_eq (node_cmp key q)) (Some ways) (a q))
+    → ((goal : Node) (w : Ways) → a goal ≡ Some w → AreWaysTo s goal w) → AreWaysTo s key ways → (goal : Node) (w : Ways) → b goal ≡ Some w → AreWaysTo s goal w
+goals_put s a b key ways put known to goal w is = elim (put_at key goal (b goal) (Some ways) (a goal) (put goal)) [
+  | inl p ↦ subst (λ (n : Node). AreWaysTo s n w) p.0 (subst (λ (v : Ways). AreWaysTo s key v) (same_Some ways w (sym p.1 ∙ is)) to)
   | inr e ↦ known goal w (sym e ∙ is)
 ]
 

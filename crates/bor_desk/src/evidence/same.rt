@@ -1,6 +1,6 @@
 //! By which records two entities are one.
 
-ghost use Rattle.std.specs.Prelude.{IfOk, OnOk, Some};
+ghost use Rattle.std.specs.Prelude.{◌≡◌, IfOk, OnOk, Some};
 ghost use Rattle.bor_records.specs.Links.Shown.{Shown};
 ghost use Rattle.bor_records.specs.Links.Aliases.{Same};
 ghost use Rattle.bor_records.specs.Promises.{Kept, Promised};
@@ -32,23 +32,24 @@ impl Goals {
         }
     }
 
-    // The ways to a goal, as far as they were looked for. They are taken out.
-    fn take(&mut self, alloc: Global, goal: &Node) -> Result<Ways, AllocError>
-        ensures { IfOk result (λ ways. (s : Shown) → AreGoals s self.old
-            → AreGoals s self.new × AreWaysTo s goal.now ways) }
+    // A goal with the ways to it, as far as they were looked for. Both are taken out.
+    fn take(&mut self, alloc: Global, goal: &Node) -> Result<(Node, Ways), AllocError>
+        ensures goal { IfOk result (λ taken. taken.0 ≡ goal.now) }
+        ensures ways { IfOk result (λ taken. (s : Shown) → AreGoals s self.old
+            → AreGoals s self.new × AreWaysTo s goal.now taken.1) }
     {
-        match self.ways.remove(goal) {
-            Some(ways) => Ok(ways),
-            None => Ways::to(alloc, goal),
+        match self.ways.remove_entry(goal) {
+            Some(taken) => Ok(taken),
+            None => Ok((goal.copy(alloc)?, Ways::to(alloc, goal)?)),
         }
     }
 
-    // Puts the ways to a goal back.
-    fn put(&mut self, alloc: Global, goal: &Node, ways: Ways) -> Result<(), AllocError>
-        ensures { OnOk result ((s : Shown) → AreGoals s self.old → AreWaysTo s goal.now ways
+    // Puts a goal back, with the ways to it.
+    fn put(&mut self, goal: Node, ways: Ways) -> Result<(), AllocError>
+        ensures { OnOk result ((s : Shown) → AreGoals s self.old → AreWaysTo s goal ways
             → AreGoals s self.new) }
     {
-        self.ways.insert(goal.copy(alloc)?, ways)?;
+        self.ways.insert(goal, ways)?;
         Ok(())
     }
 
@@ -76,10 +77,10 @@ impl Goals {
         if node == goal {
             return Ok(Vec::new(alloc));
         }
-        let mut ways = self.take(alloc, goal)?;
+        let (key, mut ways) = self.take(alloc, goal)?;
         ways.look_for(alloc, keep, viewer, day, node, goal)?;
         let way = ways.way_from(alloc, node)?;
-        self.put(alloc, goal, ways)?;
+        self.put(key, ways)?;
         Ok(way)
     }
 }
