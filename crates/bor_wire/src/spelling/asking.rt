@@ -2,6 +2,7 @@
 ghost use Rattle.std.specs.Prelude.{◌≡◌, ℕ, List, MatchResult};
 ghost use Rattle.bor_http.specs.Incoming.Reading.{IsReadAs};
 ghost use Rattle.bor_wire.specs.Spelling.Spell.{SpellsAs, asked_view, spell};
+ghost use Rattle.bor_wire.specs.Spelling.Parts.{path_text, query};
 ghost use Rattle.bor_wire.specs.Spelling.Query.{pair_texts};
 ghost use Rattle.bor_wire.specs.Spelling.Steps.{FindsStated, enrolment_by_steps, identifier_by_steps, lodging_by_steps, node_by_steps, renewal_by_steps, request_by_steps, snapshot_by_steps};
 
@@ -100,15 +101,21 @@ fn renewal_for(alloc: Global, path: &[u8], body: &[u8]) -> Result<Request, WireF
     }))
 }
 
-// The request that a route asks for, from the path, the query and the body.
+// The request that a route asks for, from a message's path, the pairs of its query and its body.
 #[tactic(auto, unfolding(crate::specs::Spelling::Steps::request_by_steps))]
-fn request_for(alloc: Global, route: Route, raw: &RawRequest<'_>) -> Result<Request, WireFault>
+fn request_with(
+    alloc: Global,
+    route: Route,
+    path: &[u8],
+    pairs: &[QueryPair<'_>],
+    raw: &RawRequest<'_>,
+) -> Result<Request, WireFault>
+    requires path { path.now ≡ path_text raw.now }
+    requires query { pair_texts pairs.now ≡ query raw.now }
     ensures { FindsStated (λ request. request) result (request_by_steps route raw.now) }
 {
-    let (path, query) = split_at_first(raw.target(), b'?');
-    let pairs = query_pairs(alloc, query)?;
     match route {
-        Route::Lodge => lodging_for(alloc, path, &pairs, raw.body()),
+        Route::Lodge => lodging_for(alloc, path, pairs, raw.body()),
         Route::Withdraw => Ok(Request::Agent(AgentRequest::Withdraw {
             key: key_at(alloc, path)?,
         })),
@@ -117,26 +124,35 @@ fn request_for(alloc: Global, route: Route, raw: &RawRequest<'_>) -> Result<Requ
             key: key_at(alloc, path)?,
         })),
         Route::Published => Ok(Request::Agent(AgentRequest::Published)),
-        Route::Snapshot => snapshot_for(alloc, &pairs),
+        Route::Snapshot => snapshot_for(alloc, pairs),
         Route::Chains => Ok(Request::Agent(AgentRequest::Chains {
-            entity: node_named(alloc, &pairs)?,
-            date: day_if_named(&pairs, Name::Date)?,
+            entity: node_named(alloc, pairs)?,
+            date: day_if_named(pairs, Name::Date)?,
         })),
         Route::Evidence => Ok(Request::Agent(AgentRequest::Evidence {
-            entity: node_named(alloc, &pairs)?,
-            date: day_if_named(&pairs, Name::Date)?,
+            entity: node_named(alloc, pairs)?,
+            date: day_if_named(pairs, Name::Date)?,
         })),
         Route::Entities => Ok(Request::Agent(AgentRequest::Entities {
-            identifier: identifier_named(alloc, &pairs)?,
-            date: day_if_named(&pairs, Name::Date)?,
+            identifier: identifier_named(alloc, pairs)?,
+            date: day_if_named(pairs, Name::Date)?,
         })),
         Route::Day => Ok(Request::Registrar(RegistrarRequest::Day {
-            date: day_named(&pairs, Name::Date)?,
+            date: day_named(pairs, Name::Date)?,
         })),
-        Route::Enrol => enrolment_for(alloc, &pairs, raw.body()),
+        Route::Enrol => enrolment_for(alloc, pairs, raw.body()),
         Route::Renew => renewal_for(alloc, path, raw.body()),
         Route::Register => Ok(Request::Registrar(RegistrarRequest::Register)),
     }
+}
+
+// The request that a route asks for.
+fn request_for(alloc: Global, route: Route, raw: &RawRequest<'_>) -> Result<Request, WireFault>
+    ensures { FindsStated (λ request. request) result (request_by_steps route raw.now) }
+{
+    let (path, query) = split_at_first(raw.target(), b'?');
+    let pairs = query_pairs(alloc, query)?;
+    request_with(alloc, route, path, &pairs, raw)
 }
 
 /// The request that a message spells, with the token of whoever asks, or the first refusal of those
