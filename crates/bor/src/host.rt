@@ -259,24 +259,8 @@ fn filled_in<'r, S: Start + Copy>(
     Ok(register)
 }
 
-// The register in the file of this name, or one that is set up in it where it has none.
-fn found_or_set_up<S: Start>(
-    rt: &HostRuntime,
-    path: &str,
-    start: S,
-    registrar: &Token,
-    day: Day,
-) -> Result<Opened<SqlKeep<FileStore<FileFrom<S>>>>, OpenFault>
-    ensures { let keep = ⟦<SqlKeep<FileStore<FileFrom<S>>> as Keep>⟧ in IfOk result (λ opened.
-        FindsOrSetsUp keep.meaning (HoldsRegister (image_at S.Start)) registrar.now day
-        opened.register opened.origin) }
-{
-    make_private(rt, path);
-    let conn = connect(rt, path, start)?;
-    find_or_set_up(rt.alloc(), conn, registrar, day)
-}
-
-// The same, without a mirror.
+// The register in the file of this name, or one that is set up in it where it has none, without a
+// mirror.
 fn opened_in<'r, S: Start>(
     rt: &'r HostRuntime,
     path: &str,
@@ -289,7 +273,9 @@ fn opened_in<'r, S: Start>(
         FindsOrSetsUp served.meaning (HoldsRegister (image_at S.Start)) registrar.now day
         opened.register opened.origin) }
 {
-    let Opened { register, origin } = found_or_set_up(rt, path, start, registrar, day)?;
+    make_private(rt, path);
+    let conn = connect(rt, path, start)?;
+    let Opened { register, origin } = find_or_set_up(rt.alloc(), conn, registrar, day)?;
     Ok(Opened {
         register: ServedRegister::new(register, 0, Telling { rt, log: false }),
         origin,

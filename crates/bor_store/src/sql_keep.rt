@@ -11,7 +11,7 @@ ghost use Rattle.bor_store.specs.Telling.{tells, tells_made, store_fault_of};
 
 use crate::lodging::add_next_filing;
 use bods_read::{Identifier, Statement};
-use bor_desk::mirror::MirrorStore;
+use bor_desk::mirror::{MirrorStore, Opened};
 use bor_records::links::{Link, Node, NodeInfo};
 use bor_records::{Last, Row};
 use bor_register::keeping::Keep;
@@ -293,6 +293,13 @@ impl<S: Alter + Drop> Keep for SqlKeep<S> {
         (sym (S.settled k.conn.store trees clean.1 may)) (shows.has, shows.stored) };
 }
 
+impl<S: Alter + Drop> Opened for SqlKeep<S> {
+    ghost use Rattle.sqlite.specs.State.{HasCleanDisk};
+    ghost use Rattle.bor_store_sql.specs.Shown.{IsClean};
+
+    ghost is_open = { λ k. HasCleanDisk (state S.Store k.conn) → IsClean (state S.Store k.conn) };
+}
+
 #[tactic(auto, using(bor_store_reads::proofs::Found::still_shows, crate::proofs::Telling::still_kept, crate::proofs::Telling::lasts_told, crate::proofs::Telling::up_told, crate::proofs::Telling::undamaged_told))]
 impl<S: Alter + Drop> MirrorStore for SqlKeep<S> {
     fn whole(&mut self, most: u32) -> Result<Option<ListKeep>, StoreFault> {
@@ -308,4 +315,6 @@ impl<S: Alter + Drop> MirrorStore for SqlKeep<S> {
             Err(fault) => Err(fault),
         }
     }
+
+    ghost open_is_clean = { λ k. ((λ clean. clean), (λ clean. clean)) };
 }

@@ -10,7 +10,7 @@ ghost use Rattle.bor_register.specs.Memory.Holding.{Holding};
 ghost use Rattle.bor_desk.specs.Mirror.Following.{IsFollowed};
 ghost use Rattle.bor_desk.specs.Mirror.Reading.{IsReadOfEither};
 
-use crate::mirror::mirror_store::MirrorStore;
+use crate::mirror::mirror_store::{MirrorStore, Opened};
 use crate::mirror::notice::Notice;
 use bods_read::{Identifier, Statement};
 use bor_records::links::{Link, Node, NodeInfo};
@@ -31,7 +31,7 @@ use std::marker::Model;
 /// has answered a fault since the store last said who has one: a store that has shut answers no
 /// request.
 #[derive(Drop)]
-pub struct MirroredKeep<K: MirrorStore + Drop, N: Notice + Drop> {
+pub struct MirroredKeep<K: Opened + Drop, N: Drop> {
     store: K,
     notice: N,
     // The live statements that a mirror may hold as it is made.
@@ -42,7 +42,7 @@ pub struct MirroredKeep<K: MirrorStore + Drop, N: Notice + Drop> {
     is_up: bool,
 }
 
-impl<K: MirrorStore + Drop, N: Notice + Drop> Model for MirroredKeep<K, N> {
+impl<K: Opened + Drop, N: Drop> Model for MirroredKeep<K, N> {
     ghost use Rattle.std.specs.Prelude.{◌≡◌, Option, option_map, true};
     ghost use Rattle.bor_register.specs.Memory.Holding.{Holding};
     ghost use Rattle.bor_register.specs.Register.{Register};
@@ -54,11 +54,10 @@ impl<K: MirrorStore + Drop, N: Notice + Drop> Model for MirroredKeep<K, N> {
 
     // Where the mirror may tell who has a token, the store is open, if it has returned what was
     // written.
-    ghost invariant = { λ k. k.is_up ≡ true
-        → K.meaning.is_sound k.store → K.meaning.is_clean k.store };
+    ghost invariant = { λ k. k.is_up ≡ true → K.is_open k.store };
 }
 
-impl<K: MirrorStore + Drop, N: Notice + Drop> MirroredKeep<K, N> {
+impl<K: Opened + Drop, N: Drop> MirroredKeep<K, N> {
     /// The store, without a mirror. One that is made later holds at most so many live statements;
     /// the notice is given where it is let go.
     pub fn new(store: K, most: u32, notice: N) -> Self
@@ -92,7 +91,9 @@ impl<K: MirrorStore + Drop, N: Notice + Drop> MirroredKeep<K, N> {
             None => None,
         }
     }
+}
 
+impl<K: MirrorStore + Drop, N: Notice + Drop> MirroredKeep<K, N> {
     /// Makes the mirror, where there is none and it may hold a statement: where the register has no
     /// more live statements than it may hold, there is memory for it, and the store tells its
     /// register.

@@ -1,8 +1,9 @@
+use Rattle.bor.proofs.Told.{found_in}
 use Rattle.bor.proofs.host.opened_in.Goals as goal
 
 pub returns : goal.returns
 returns g c =
-    let finds = c.in_ok-register.ensures in
+    let finds = found_in _ _ _ _ _ c.in_ok-conn.ensures.connected _ _ c.in_ok-register.ensures in
     rw c.new.ensures
     (record {
       found = λ is clean r held. (finds.found is clean r held, tt);

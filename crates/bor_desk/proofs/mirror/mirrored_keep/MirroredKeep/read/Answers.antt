@@ -24,11 +24,12 @@ module _ (g : Over) (c : goal.Joined-drop g) where
   asked = record { shown = _; shows = store; left = _; met = c.by_store-told.ensures; leaves = refl }
 
 pub invariant_of-self-2 : goal.invariant_of-self-2
-invariant_of-self-2 g c = λ is_up sound. (elim c.if-self.branch [
+invariant_of-self-2 g c = λ is_up. (elim c.if-self.branch [
   | then-self w ↦
       (let told = answer_of c.by_store-told.result (sym w.is_ok-self-inside.ensures.value ∙ sym w.self-is ∙ is_up) in
       let lasts = c.requires.lasts _ _ told.0 (subst (λ r. FnOnceReturnsAtMut g.S.FnOnce c.args.by_store c.self.inside.store r c.by_store-told.new.arg2) told.1 (asked g c)) in
-      lasts.clean sound (c.self.invariant (sym (up g c) ∙ w.if-self.true) (lasts.sound sound)))
+      let law = g.met.K.MirrorStore.open_is_clean in
+      (law c.by_store-told.new.arg2).1 (λ sound. lasts.clean sound ((law c.self.inside.store).0 (c.self.invariant (sym (up g c) ∙ w.if-self.true)) (lasts.sound sound))))
   | else-self w ↦ (let wrong : true ≡ false = sym is_up ∙ w.self-is ∙ w.if-self.false in absurd cc)
 ])
 
