@@ -36,9 +36,11 @@ module _ {K W : Type 0} (meaning : Meaning K Register W StoreFault) (Held : Regi
   told_comes of (Err fault) told e h = subst (λ t. IfOk t (λ o. ComesToBe meaning path registrar day o.register o.origin Done)) (sym e) tt
 
 -- what came to be open on a connection that shows what its files hold
-pub found_in : {K W : Type 0} (meaning : Meaning K Register W StoreFault) (registrar : List ℕ) (day : ℤ) (image : Image) (s : State) → (HasCleanDisk s → IsConnected image s)
-    → (register : K) (came : Origin) → ComesOpen meaning registrar day s register came → FindsOrSetsUp meaning (HoldsRegister image) registrar day register came
-found_in meaning registrar day image s connected register came h = record {
+pub found_or_made : {K E W : Type 0} (meaning : Meaning K Register W StoreFault) (registrar : List ℕ) (day : ℤ) (image : Image) (s : State) → (HasCleanDisk s → IsConnected image s)
+    → (result : Result (Opened K) E) → IfOk result (λ o. ComesOpen meaning registrar day s o.register o.origin)
+    → IfOk result (λ o. FindsOrSetsUp meaning (HoldsRegister image) registrar day o.register o.origin)
+found_or_made meaning registrar day image s connected (Err e) h = tt
+found_or_made meaning registrar day image s connected (Ok o) h = record {
   found = λ is clean r held. h.found is clean r ((connected (h.began clean).0).shows r held);
   none = λ is clean r held. h.none is clean r ((connected (h.began clean).0).shows r held);
   made = h.made;

@@ -77,6 +77,28 @@ impl<'r, S> Host<'r, S> {
             _ => time(self.rt).saturating_sub(self.told.get()).as_secs() >= SILENCE,
         }
     }
+
+    // Prints where a command is, where it is time to.
+    fn print(&self, stage: Stage<'_>) {
+        if !self.is_due(stage) {
+            return;
+        }
+        self.told.set(time(self.rt));
+        let mut errors = self.rt.stderr();
+        let _ = match stage {
+            Stage::Opening(path) => writeln!(errors, "bor: opening {path}"),
+            Stage::Reading { read, files } => {
+                writeln!(errors, "bor: read {read} of {files} files")
+            }
+            Stage::Answering(count) => writeln!(errors, "bor: answering {count} requests"),
+            Stage::Input => writeln!(
+                errors,
+                "bor: reading a file from standard input, end with Ctrl-D"
+            ),
+            Stage::Reporting => writeln!(errors, "bor: reporting"),
+            Stage::Filling => writeln!(errors, "bor: reading the register into memory"),
+        };
+    }
 }
 
 /// Tells whether a register is read from memory: on a terminal, and in the log where there is one.
@@ -116,24 +138,7 @@ impl<'r, S: Start + Copy> Registers for Host<'r, S> {
         (λ opened left. IsMoved (image_at S.Start) (file_state opened) (file_state left)) deed };
 
     fn reach(&self, stage: Stage<'_>) {
-        if !self.is_due(stage) {
-            return;
-        }
-        self.told.set(time(self.rt));
-        let mut errors = self.rt.stderr();
-        let _ = match stage {
-            Stage::Opening(path) => writeln!(errors, "bor: opening {path}"),
-            Stage::Reading { read, files } => {
-                writeln!(errors, "bor: read {read} of {files} files")
-            }
-            Stage::Answering(count) => writeln!(errors, "bor: answering {count} requests"),
-            Stage::Input => writeln!(
-                errors,
-                "bor: reading a file from standard input, end with Ctrl-D"
-            ),
-            Stage::Reporting => writeln!(errors, "bor: reporting"),
-            Stage::Filling => writeln!(errors, "bor: reading the register into memory"),
-        };
+        self.print(stage);
     }
 
     fn open<'a>(&mut self, path: &'a str) -> Result<Served<'r, S>, Failure<'a>> {
@@ -253,9 +258,9 @@ fn filled_in<'r, S: Start + Copy>(
         → HoldsRegister (image_at S.Start) r → served.meaning.shows register r) }
 {
     let mut register = open_in(host.rt, path, host.start, most, log)?;
-    host.reach(Stage::Filling);
-    register.fill();
-    Telling { rt: host.rt, log }.tell(register.mirrored());
+    host.print(Stage::Filling);
+    let mirrored = register.fill();
+    Telling { rt: host.rt, log }.tell(mirrored);
     Ok(register)
 }
 
@@ -275,11 +280,7 @@ fn opened_in<'r, S: Start>(
 {
     make_private(rt, path);
     let conn = connect(rt, path, start)?;
-    let Opened { register, origin } = find_or_set_up(rt.alloc(), conn, registrar, day)?;
-    Ok(Opened {
-        register: ServedRegister::new(register, 0, Telling { rt, log: false }),
-        origin,
-    })
+    find_or_set_up(rt.alloc(), conn, registrar, day, Telling { rt, log: false })
 }
 
 // Makes the file of this name for its owner alone, where there is none: a register has tokens and

@@ -41,18 +41,14 @@ impl<S: Alter + Drop, N: Notice + Drop> ServedRegister<S, N> {
         self.keep.into_store()
     }
 
-    /// Makes the mirror, as `MirroredKeep::fill` does.
-    pub fn fill(&mut self)
-        ensures { Kept ⟦<ServedRegister<S, N> as Answering>⟧.meaning self.old self.new }
+    /// Makes the mirror, as `MirroredKeep::fill` does, and gives how many live statements it holds,
+    /// as `MirroredKeep::mirrored` tells it.
+    pub fn fill(&mut self) -> Option<usize>
+        ensures kept { Kept ⟦<ServedRegister<S, N> as Answering>⟧.meaning self.old self.new }
+        ensures count { result ≡ option_map
+            (λ (m : Register). min (statement_count m.members) usize.MAX) self.new.keep.1 }
     {
         self.keep.fill();
-    }
-
-    /// How many live statements the mirror holds, as `MirroredKeep::mirrored` tells it.
-    pub fn mirrored(&self) -> Option<usize>
-        ensures { result ≡ option_map
-            (λ (m : Register). min (statement_count m.members) usize.MAX) self.now.keep.1 }
-    {
         self.keep.mirrored()
     }
 }
