@@ -19,6 +19,12 @@ pub told_ok : {A E F : Type 0} (P : A → Type 0) (of : E → F) (opened : Resul
 told_ok P of (Ok x) told e h = subst (λ o. IfOk o P) (sym e) h
 told_ok P of (Err fault) told e h = subst (λ o. IfOk o P) (sym e) tt
 
+-- the same of what is made of it
+pub told_of : {A B E F : Type 0} (P : A → Type 0) (Q : B → Type 0) (of : A → B) (fault : E → F) (opened : Result A E) (told : Result B F)
+    → MatchResult opened (λ x. told ≡ Ok (of x)) (λ e. told ≡ Err (fault e)) → ((x : A) → P x → Q (of x)) → IfOk opened P → IfOk told Q
+told_of P Q of fault (Ok x) told e so h = subst (λ t. IfOk t Q) (sym e) (so x h)
+told_of P Q of fault (Err f) told e so h = subst (λ t. IfOk t Q) (sym e) tt
+
 module _ {K W : Type 0} (meaning : Meaning K Register W StoreFault) (Held : Register → Type 0) (path : Bor Text) (registrar : List ℕ) (day : ℤ) (Done : Deed K → Type 0)
     (found : (register : K) → (meaning.is_clean register → (r : Register) → Held r → meaning.shows register r) → Done (Opens path register))
     (made : (register : K) → (meaning.is_clean register → (r : Register) → ¬ Held r) → Done (SetsUp path register)) where

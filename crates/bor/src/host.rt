@@ -161,7 +161,7 @@ impl<'r, S: Start + Copy> Registers for Host<'r, S> {
     }
 
     fn close(&mut self, _path: &str, register: Served<'r, S>) {
-        let _ = register.into_store().close();
+        let _ = register.close();
     }
 }
 
@@ -242,8 +242,8 @@ fn open_in<'r, S: Start>(
         IfOk result (λ register. served.meaning.is_clean register → (r : Register)
         → HoldsRegister (image_at S.Start) r → served.meaning.shows register r) }
 {
-    let store = SqlKeep::open(rt, path, start)?;
-    Ok(ServedRegister::new(store, most, Telling { rt, log }))
+    let opened = SqlKeep::open(rt, path, start);
+    ServedRegister::opened(opened, most, Telling { rt, log })
 }
 
 // The register in the file of this name, with a mirror where there is room for one, which is told.

@@ -1,17 +1,19 @@
 //! The register that a server answers from: tables, and the same in memory beside them.
 
-ghost use Rattle.std.specs.Prelude.{◌≡◌, None, min, option_map};
+ghost use Rattle.std.specs.Prelude.{◌≡◌, Err, MatchResult, None, Ok, min, option_map};
 ghost use Rattle.bor_records.specs.Promises.{Kept};
 ghost use Rattle.bor_register.specs.Held.{statement_count};
 ghost use Rattle.bor_register.specs.Register.{Register};
+ghost use Rattle.bor_store.specs.Opening.{IsClosing};
 
 use bor_desk::Text;
 use bor_desk::mirror::{MirroredKeep, Notice};
 use bor_program::connections::{Limits, Watch, serve_within};
 use bor_program::{Answering, Reply, Report, replay, report_in};
 use bor_register::StoreFault;
-use bor_store::SqlKeep;
-use sqlite::Alter;
+use bor_store::{OpenFault, Refused, SqlKeep};
+use sqlite::{Alter, Connection, Error, FileStore, Files};
+use sqlite_disk::Disk;
 use std::alloc::{AllocError, Global};
 use std::io::{Read, Write};
 use std::net::{OpenListener, OpenStream};
@@ -34,11 +36,21 @@ impl<S: Alter + Drop, N: Notice + Drop> ServedRegister<S, N> {
         }
     }
 
-    /// The register in the tables.
-    pub fn into_store(self) -> SqlKeep<S>
-        ensures { result ≡ self.keep.0 }
+    /// The register in the tables that were opened, as [`ServedRegister::new`] makes it.
+    ///
+    /// # Errors
+    ///
+    /// The fault for which they were refused.
+    pub fn opened(
+        opened: Result<SqlKeep<S>, Refused<Option<Connection<S>>>>,
+        most: u32,
+        notice: N,
+    ) -> Result<Self, OpenFault>
+        ensures { MatchResult opened
+            (λ store. result ≡ Ok (record { keep = (store, None, notice) }))
+            (λ refused. result ≡ Err refused.fault) }
     {
-        self.keep.into_store()
+        Ok(Self::new(opened?, most, notice))
     }
 
     /// Makes the mirror, as `MirroredKeep::fill` does, and gives how many live statements it holds,
@@ -50,6 +62,20 @@ impl<S: Alter + Drop, N: Notice + Drop> ServedRegister<S, N> {
     {
         self.keep.fill();
         self.keep.mirrored()
+    }
+}
+
+impl<D: Disk + Drop, N: Notice + Drop> ServedRegister<FileStore<D>, N> {
+    /// Closes the register, as [`SqlKeep::close`] does.
+    ///
+    /// # Errors
+    ///
+    /// The store's: the log can't be copied into the database file. Nothing that was committed is
+    /// lost.
+    pub fn close(self) -> Result<Files<D>, Error>
+        ensures { IsClosing self.keep.0.conn result }
+    {
+        self.keep.into_store().close()
     }
 }
 

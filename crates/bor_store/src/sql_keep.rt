@@ -11,7 +11,7 @@ ghost use Rattle.bor_store.specs.Telling.{tells, tells_made, store_fault_of};
 
 use crate::lodging::add_next_filing;
 use bods_read::{Identifier, Statement};
-use bor_desk::mirror::{MirrorStore, Opened};
+use bor_desk::mirror::{MirrorStore, StoreState};
 use bor_records::links::{Link, Node, NodeInfo};
 use bor_records::{Last, Row};
 use bor_register::keeping::Keep;
@@ -293,7 +293,7 @@ impl<S: Alter + Drop> Keep for SqlKeep<S> {
         (sym (S.settled k.conn.store trees clean.1 may)) (shows.has, shows.stored) };
 }
 
-impl<S: Alter + Drop> Opened for SqlKeep<S> {
+impl<S: Alter + Drop> StoreState for SqlKeep<S> {
     ghost use Rattle.sqlite.specs.State.{HasCleanDisk};
     ghost use Rattle.bor_store_sql.specs.Shown.{IsClean};
 

@@ -9,13 +9,13 @@ use bor_register::keeping::Keep;
 use bor_register::memory::ListKeep;
 
 /// What a store is known by without being asked, which is for contracts alone.
-pub trait Opened {
+pub trait StoreState {
     /// The store is open, if it has returned what was written.
     ghost is_open: { Self → Type 0 };
 }
 
 /// A keep that can be mirrored: it hands out its register whole.
-pub trait MirrorStore: Keep + Opened {
+pub trait MirrorStore: Keep + StoreState {
     /// The register in memory, each filing without its file; `None` where it has more live
     /// statements than so many, or there is no memory for it. Only a store that is open answers, if
     /// it has returned what was written.

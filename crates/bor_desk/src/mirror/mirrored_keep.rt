@@ -10,7 +10,7 @@ ghost use Rattle.bor_register.specs.Memory.Holding.{Holding};
 ghost use Rattle.bor_desk.specs.Mirror.Following.{IsFollowed};
 ghost use Rattle.bor_desk.specs.Mirror.Reading.{IsReadOfEither};
 
-use crate::mirror::mirror_store::{MirrorStore, Opened};
+use crate::mirror::mirror_store::{MirrorStore, StoreState};
 use crate::mirror::notice::Notice;
 use bods_read::{Identifier, Statement};
 use bor_records::links::{Link, Node, NodeInfo};
@@ -31,7 +31,7 @@ use std::marker::Model;
 /// has answered a fault since the store last said who has one: a store that has shut answers no
 /// request.
 #[derive(Drop)]
-pub struct MirroredKeep<K: Opened + Drop, N: Drop> {
+pub struct MirroredKeep<K: StoreState + Drop, N: Drop> {
     store: K,
     notice: N,
     // The live statements that a mirror may hold as it is made.
@@ -42,7 +42,7 @@ pub struct MirroredKeep<K: Opened + Drop, N: Drop> {
     is_up: bool,
 }
 
-impl<K: Opened + Drop, N: Drop> Model for MirroredKeep<K, N> {
+impl<K: StoreState + Drop, N: Drop> Model for MirroredKeep<K, N> {
     ghost use Rattle.std.specs.Prelude.{◌≡◌, Option, option_map, true};
     ghost use Rattle.bor_register.specs.Memory.Holding.{Holding};
     ghost use Rattle.bor_register.specs.Register.{Register};
@@ -57,7 +57,7 @@ impl<K: Opened + Drop, N: Drop> Model for MirroredKeep<K, N> {
     ghost invariant = { λ k. k.is_up ≡ true → K.is_open k.store };
 }
 
-impl<K: Opened + Drop, N: Drop> MirroredKeep<K, N> {
+impl<K: StoreState + Drop, N: Drop> MirroredKeep<K, N> {
     /// The store, without a mirror. One that is made later holds at most so many live statements;
     /// the notice is given where it is let go.
     pub fn new(store: K, most: u32, notice: N) -> Self

@@ -18,6 +18,6 @@ mod mirror_store;
 mod mirrored_keep;
 mod notice;
 
-pub use mirror_store::{MirrorStore, Opened};
+pub use mirror_store::{MirrorStore, StoreState};
 pub use mirrored_keep::MirroredKeep;
 pub use notice::Notice;

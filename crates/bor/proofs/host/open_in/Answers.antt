@@ -1,4 +1,6 @@
+use Rattle.bor.proofs.Told.{told_of}
 use Rattle.bor.proofs.host.open_in.Goals as goal
 
 pub returns : goal.returns
-returns g c = λ clean r held. rw c.new.ensures (c.in_ok-store.ensures.found (rw c.new.ensures at clean) r held, tt)
+returns g c =
+    told_of _ _ _ _ c.open-opened.result c.opened.result c.opened.ensures (λ store found clean r held. (found clean r held, tt)) c.open-opened.ensures.found
