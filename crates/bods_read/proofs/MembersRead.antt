@@ -1,5 +1,5 @@
 -- A statement and an interest whose members were read one by one.
-use Rattle.std.proofs.Common.{◌≡◌, ℕ, ℤ, List, [], Option, Ok, pos, refl}
+use Rattle.std.proofs.Common.{◌≡◌, ℕ, ℤ, List, [], ◌++◌, Option, Ok, pos, refl}
 use Rattle.serde_json.specs.Data.{Data, null}
 use Rattle.bor_terms.specs.Span.{Range}
 use Rattle.bods_read.specs.declared.fault.Field.TheVariants as fields
@@ -51,3 +51,14 @@ statement_read d id day declaration rec kind status inner details i t s r k u o 
     ok_lines _ _ _ _ _ _ i (ok_lines _ _ _ _ _ _ t (ok_lines _ _ _ _ _ _ s (ok_lines _ _ _ _ _ _ r
     (ok_lines _ _ _ _ _ _ k (ok_lines _ _ _ _ _ _ u (ok_lines _ _ _ _ _ _ o (ok_lines _ _ _ _ _ _ further
     (rw (ok_is _ _ _ i, ok_is _ _ _ t, ok_is _ _ _ s, ok_is _ _ _ r, ok_is _ _ _ k, ok_is _ _ _ u, ok_is _ _ _ o, ok_is _ _ _ h) refl))))))))
+
+-- a fault of the details fails the statement
+pub details_fail : {X : Type 0} (d : Data) (kind : RecordType) (inner : Data) (e : Trouble) (x : X)
+    → outcome (required fields.RecordType type_in d) (required_value fields.RecordType type_in types.Entity d) ≡ Ok kind
+    → outcome (required fields.RecordDetails object_in d) (required_value fields.RecordDetails object_in null d) ≡ Ok inner
+    → Fails e (outcome (details_lines kind inner) (details_of kind inner))
+    → Fails e (outcome (further_lines (optional_value fields.RecordType type_in d) (optional_value fields.RecordDetails object_in d) ++ []) x)
+details_fail d kind inner e x k o h =
+    let kind_is = required_is fields.RecordType type_in types.Entity d kind k in
+    let inner_is = required_is fields.RecordDetails object_in null d inner o in
+    fails_here e _ [] (details_of kind inner) x (rw (kind_is, inner_is) h)

@@ -1,10 +1,10 @@
 -- Reading line by line is the first fault of the table.
-use Rattle.std.proofs.Common.{◌≡◌, List, ◌++◌, Ok, Option, Some, arith}
+use Rattle.std.proofs.Common.{◌≡◌, List, ◌++◌, Result, Ok, Err, IsErrAnd, Option, Some, arith}
 use Rattle.serde_json.specs.Data.{Data}
 use Rattle.bods_read.specs.declared.fault.Field.{Field}
 use Rattle.bods_read.specs.declared.fault.Fault.{Fault}
 use Rattle.bods_read.specs.declared.trouble.Trouble.{Trouble}
-use Rattle.bods_read.specs.Outcome.{outcome, Fails}
+use Rattle.bods_read.specs.Outcome.{outcome, Fails, Gives}
 use Rattle.bods_read.specs.Member.{required, required_value, optional_value}
 
 -- the lines before and after one another
@@ -24,5 +24,10 @@ required_is field form any d x e = grind arith
 -- what was read is the value
 pub ok_is : {F X : Type 0} (lines : List F) (x y : X) → outcome lines x ≡ Ok y → x ≡ y
 ok_is lines x y e = grind arith
+
+-- a fault that is handed on fails what was read
+pub handed_on : {X Y : Type 0} (seen : X → Y) (result : Result X Trouble) (e : Trouble) (read : Result Y Fault) → IsErrAnd result (λ t. t ≡ e) → Fails e read → Gives seen result read
+handed_on seen (Ok x) e read h fails = absurd h
+handed_on seen (Err t) e read h fails = rw h fails
 
 pub ruleset table_rules = (ok_lines, fails_here, fails_later)

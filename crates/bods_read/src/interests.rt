@@ -93,20 +93,9 @@ fn each(alloc: Global, values: &[Value]) -> Result<Vec<Interest>, Trouble>
 {
     let mut interests = Vec::new(alloc);
     for value in values {
-        let Interest {
-            kind,
-            directness,
-            share,
-            starts,
-            ends,
-        } = interest(value)?;
-        interests.push(Interest {
-            kind,
-            directness,
-            share,
-            starts,
-            ends,
-        })?;
+        let interest = interest(value)?;
+        let share = interest.share;
+        interests.push(Interest { share, ..interest })?;
     }
     Ok(interests)
 }

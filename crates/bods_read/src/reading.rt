@@ -28,7 +28,6 @@ fn details(alloc: Global, kind: RecordType, value: &Value) -> Result<Details, Tr
     }
 }
 
-#[tactic(auto, using(crate::proofs::Tables::table_rules), unfolding(crate::specs::Statement::statement_object_lines, crate::specs::Statement::statement_of))]
 fn of_object(alloc: Global, value: &Value) -> Result<Statement, Trouble>
     ensures { Gives (λ s. s) result
         (outcome (statement_object_lines (view value.now)) (statement_of (view value.now))) }

@@ -45,3 +45,11 @@ module _ {S V F : Type 0} {r : Reading S V F} where
     lasts = not_answered _ _ result told;
     answer = λ clean v shown. failed r.may_tell (λ e. e ≡ error) result (Q v) told (λ e same. subst r.may_tell (sym same) (was.answer clean v shown));
   }
+
+  -- a fault after a read that has an answer
+  pub read_stops : {X Y : Type 0} {P : V → X → Type 0} {Q : V → Y → Type 0} {old new : S} {x : X} {Told : F → Type 0} {result : Result Y F} → ReadsSo r old new (Ok x) P → IsErrAnd result Told → ((e : F) → Told e → r.may_tell e) → ReadsSo r old new result Q
+  read_stops {X} {Y} {P} {Q} {old} {new} {x} {Told} {result} was told so = record {
+    leads = was.leads;
+    lasts = not_answered _ _ result told;
+    answer = λ clean v shown. failed r.may_tell Told result (Q v) told so;
+  }

@@ -56,8 +56,6 @@ grown_like P R a b g into from = record {
   every = λ n r. g.every n (from n r);
 }
 
-pub ruleset growing = (grown_there, grown_push)
-
 -- the elements before i + 1 are those before i, and the one at i
 pub Contains-take_more : {X : Type 0} (xs : List X) (i : ℕ) (d y : X) → i < length xs → Contains (take (i + 1) xs) y → Contains (take i xs) y ⊎ (y ≡ get_or xs i d)
 Contains-take_more {X} xs i d y l h =

@@ -76,7 +76,6 @@ impl Class {
     }
 
     /// Adds a node at the end, unless it is there. Without memory the nodes stay as they are.
-    #[tactic(auto, using(crate::proofs::OnLinks::Growth::growing))]
     pub fn add(&mut self, node: Node) -> Result<(), AllocError>
         ensures longer { OnOk result (length self.old ≤ length self.new) }
         ensures grown { OnOk result (Grown (λ n. n ≡ node) self.old self.new) }

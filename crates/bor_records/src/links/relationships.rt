@@ -1,6 +1,6 @@
 //! Relationships that are read by key, and the links into a node that they state.
 
-ghost use Rattle.std.specs.Prelude.{◌≡◌, true, IfOk};
+ghost use Rattle.std.specs.Prelude.{◌≡◌, true, IfOk, Some};
 ghost use Rattle.std.specs.List.{filter_map};
 ghost use Rattle.bor_records.specs.Reading.{ReadsSo};
 ghost use Rattle.bor_records.specs.Links.Answers.{AreLinksInto};
@@ -48,13 +48,30 @@ fn link_of<R: Relationships>(
         is_entity_info (info_of (R.shown m) subject.now) ≡ true
         → link ≡ link_of (R.shown m) subject.now rec.now) }
 {
-    let Some(link) = records.stated(subject, rec)? else {
-        return Ok(None);
-    };
-    if !records.is_open(&link.party)? {
-        return Ok(None);
+    match records.stated(subject, rec)? {
+        Some(link) => if_open(records, link),
+        None => Ok(None),
     }
-    Ok(Some(link))
+}
+
+// Whether the party of a link is open.
+fn has_open_party<R: Relationships>(records: &mut R, link: &Link) -> Result<bool, R::Fault>
+    ensures { ReadsSo R.reading records.old records.new result (λ m is.
+        is ≡ is_some_info (info_of (R.shown m) link.now.party)) }
+{
+    records.is_open(&link.party)
+}
+
+// A link, where its party is open.
+fn if_open<R: Relationships>(records: &mut R, link: Link) -> Result<Option<Link>, R::Fault>
+    ensures { ReadsSo R.reading records.old records.new result (λ m kept.
+        kept ≡ with_open_party (R.shown m) (Some link)) }
+{
+    if has_open_party(records, &link)? {
+        Ok(Some(link))
+    } else {
+        Ok(None)
+    }
 }
 
 // The links into an open entity that these records make.

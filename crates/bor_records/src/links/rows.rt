@@ -5,11 +5,12 @@ ghost use Rattle.bor_records.specs.Links.Answers.{only_into};
 ghost use Rattle.bor_records.specs.Links.Nodes.{same_node};
 ghost use Rattle.bor_records.specs.Links.Rows.{is_legal_kind, node_in, info_stated, link_stated, named_by};
 ghost use Rattle.bor_records.specs.Links.Candidates.{beside};
+ghost use Rattle.bor_records.specs.Links.Stakes.{is_holding, is_stake};
 
 use crate::Row;
 use crate::links::node::{Link, Node, NodeInfo, OpenNode, PersonInfo};
 use crate::links::stake::{holding_of, stake_of};
-use bods_read::{Details, EntityKind, Identifier};
+use bods_read::{Details, EntityKind, Identifier, Interest};
 use bor_terms::{Day, Ident, Listed};
 use std::alloc::{AllocError, Global};
 
@@ -111,15 +112,42 @@ pub fn link_stated(
         return Ok(None);
     }
     let interests = interests.as_slice();
-    Ok(Some(Link {
+    Ok(Some(link_from(alloc, party, subject, rec, interests, day)?))
+}
+
+// The link from a party to `subject` by these interests, all of one declaration.
+fn link_from(
+    alloc: Global,
+    party: &Ident,
+    subject: &Node,
+    rec: &Node,
+    interests: &[Interest],
+    day: Day,
+) -> Result<Link, AllocError>
+    ensures { IfOk result (λ link. link ≡ record {
+      rec = rec.now.rec;
+      party = named_by subject.now party.now;
+      subject = subject.now;
+      stake = is_stake day interests.now;
+      holding = is_holding day interests.now;
+    }) }
+{
+    Ok(Link {
         rec: rec.rec.copy(alloc)?,
         subject: subject.copy(alloc)?,
-        party: Node {
-            agent: subject.agent.copy(alloc)?,
-            declaration: subject.declaration.copy(alloc)?,
-            rec: party.copy(alloc)?,
-        },
+        party: named_by(alloc, subject, party)?,
         stake: stake_of(interests, day),
         holding: holding_of(interests, day),
-    }))
+    })
+}
+
+// The node of another record of a node's declaration.
+fn named_by(alloc: Global, node: &Node, rec: &Ident) -> Result<Node, AllocError>
+    ensures { IfOk result (λ named. named ≡ named_by node.now rec.now) }
+{
+    Ok(Node {
+        agent: node.agent.copy(alloc)?,
+        declaration: node.declaration.copy(alloc)?,
+        rec: rec.copy(alloc)?,
+    })
 }

@@ -1,7 +1,7 @@
 use Rattle.std.proofs.Common.{arith, refl, rules}
 use Rattle.std.specs.List.{filter_map}
 use Rattle.bor_records.proofs.OnLinks.Linking.{all_done, one_more}
-use Rattle.bor_records.proofs.ReadingLaws.{read_fails, read_next, read_so, unread}
+use Rattle.bor_records.proofs.ReadingLaws.{read_fails, read_next, read_so, read_stops, unread}
 use Rattle.bor_records.proofs.links.relationships.links_of.Goals as goal
 use Rattle.bor_records.specs.Links.Relationships.{link_of}
 
@@ -22,3 +22,6 @@ returns g c = read_so c.loop-rec.invariant
 
 pub returns-in_err-link : goal.returns-in_err-link
 returns-in_err-link g c = read_fails c.from_residual.ensures.1 (read_next g.met.R.Records.goes_on c.loop-rec.invariant c.in_err-link.ensures)
+
+pub returns-in_err-push_some : goal.returns-in_err-push_some
+returns-in_err-push_some g c = read_stops (read_next g.met.R.Records.goes_on c.loop-rec.invariant c.in_ok-link.ensures) c.from_residual-in_err-push_some.ensures.1 (g.met.R.Records.tells_memory _)

@@ -3,7 +3,7 @@ use Rattle.std.specs.BTreeSet.{contains}
 use Rattle.bor_records.specs.Links.Signs.{sign_cmp}
 use Rattle.bor_records.proofs.OnLinks.Signed.{gathered_more, gathered_start, gathered_told}
 use Rattle.bor_records.proofs.OnLinks.Signs.{empty_has}
-use Rattle.bor_records.proofs.ReadingLaws.{read_next, read_so, unread, read_fails}
+use Rattle.bor_records.proofs.ReadingLaws.{read_fails, read_next, read_so, read_stops, unread}
 use Rattle.bor_records.proofs.links.search.same.Goals as goal
 
 pub loop-next-init : goal.loop-next-init
@@ -24,3 +24,12 @@ returns g c = read_so c.loop-next.invariant
 
 pub returns-in_err-add_by_node : goal.returns-in_err-add_by_node
 returns-in_err-add_by_node g c = read_fails c.from_residual-in_err-add_by_node.ensures.1 (read_next g.met.R.Records.goes_on c.loop-next.invariant c.in_err-add_by_node.ensures)
+
+pub returns-in_err-copy : goal.returns-in_err-copy
+returns-in_err-copy g c = read_stops (unread {x = tt {0}} {P = λ m x. Unit {0}} g.met.R.Records.goes_on (λ m. tt)) c.from_residual.ensures.1 (g.met.R.Records.tells_memory _)
+
+pub returns-in_err-add : goal.returns-in_err-add
+returns-in_err-add g c = read_stops (unread {x = tt {0}} {P = λ m x. Unit {0}} g.met.R.Records.goes_on (λ m. tt)) c.from_residual-in_err-add.ensures.1 (g.met.R.Records.tells_memory _)
+
+pub returns-in_err-one : goal.returns-in_err-one
+returns-in_err-one g c = read_stops c.loop-next.invariant c.from_residual-in_err-one.ensures.1 (g.met.R.Records.tells_memory _)

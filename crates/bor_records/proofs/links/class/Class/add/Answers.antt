@@ -6,7 +6,7 @@ use Rattle.bor_records.specs.Links.Nodes.{node_cmp}
 use Rattle.bor_records.specs.Links.Orders.{node_total}
 use Rattle.bor_records.proofs.OnLinks.Exact.{exact_node}
 use Rattle.bor_records.proofs.OnLinks.Given.{given_copied, popped, rest_begun, rest_more, on_ok, on_err}
-use Rattle.bor_records.proofs.OnLinks.Growth.{grown_there}
+use Rattle.bor_records.proofs.OnLinks.Growth.{grown_push, grown_there}
 use Rattle.bor_records.proofs.OnLinks.InOrder.{distinct_more}
 use Rattle.bor_records.proofs.links.class.Class.add.Goals as goal
 
@@ -46,3 +46,9 @@ invariant_of-self-else-is_err c =
           (given_copied node_cmp node_total exact_node (drop 1 c.self.inside.order.items) c.self.inside.rest c.insert.new.self c.args.node c.in_ok-copied.copied c.in_ok-copied.ensures c.self.invariant.0 updates.0 updates.1),
       distinct_more c.self.inside.order.items c.args.node c.self.invariant.1 gone,
     )
+
+pub returns-then-is_empty-clause-grown : goal.returns-then-is_empty-clause-grown
+returns-then-is_empty-clause-grown c = rw (c.in_ok-push.ensures.items, c.self.view_is) (grown_push c.args.self.now c.args.node)
+
+pub returns-clause-grown : goal.returns-clause-grown
+returns-clause-grown c = rw (c.in_ok-push-2.ensures.items, c.self.view_is) (grown_push c.args.self.now c.args.node)
