@@ -1,10 +1,10 @@
 -- Words behind a command's name as they are joined, one after the other.
-use Rattle.std.proofs.Common.{◌≡◌, ◌++◌, ◌∙◌, ◌||◌, ◌==◌, Bool, List, [], ◌∷◌, append_assoc, ap, codes, false, refl, subst, sym, true, if◌then◌else◌, bytes_eq}
+use Rattle.std.proofs.Common.{◌≡◌, ◌++◌, ◌∙◌, ◌||◌, ◌==◌, ◌&&◌, Bool, List, [], ◌∷◌, append_assoc, ap, codes, false, refl, subst, sym, true, if◌then◌else◌, bytes_eq}
 use Rattle.std.specs.List.{before_first, list_all}
 use Rattle.std.proofs.lemmas.Bool.{and_parts, not-true}
 use Rattle.std.proofs.lemmas.Slice.Eq.{bytes_eq-Decides}
 use Rattle.clap.specs.Words.{Text}
-use Rattle.bor_words.specs.Joined.{is_among, is_value, joined_at, joined_behind, report_options, serve_options, setup_options, takes_value}
+use Rattle.bor_words.specs.Joined.{begin_with_value, is_among, is_value, joined_at, joined_behind, report_options, serve_options, setup_options, takes_value}
 
 -- ---- an option's own name
 
@@ -93,3 +93,13 @@ value_more command first word value made left behind more done now whole begins 
     let words : left ≡ word ∷ value ∷ more = begins ∙ ap (λ (w : Text). w ∷ behind) (sym named) ∙ ap (λ (ws : List Text). word ∷ ws) next in
     one_more done now (joined_behind command left) (joined_behind command more) whole made h pushed
     (ap (joined_behind command) words ∙ joins command word value more e takes is ∙ ap (λ (w : Text). w ∷ joined_behind command more) (sym spelled))
+
+-- a word that is joined with none
+pub word_more : (command first word made : Text) (left behind done now whole : List Text) → left ≡ first ∷ behind → word ≡ first → bytes_eq word (codes "--") ≡ false
+    → (takes_value command word && begin_with_value command behind) ≡ false → made ≡ word → now ≡ done ++ made ∷ []
+    → done ++ joined_behind command left ≡ whole → now ++ joined_behind command behind ≡ whole
+word_more command first word made left behind done now whole begins named e none spelled pushed h =
+    let words : left ≡ word ∷ behind = begins ∙ ap (λ (w : Text). w ∷ behind) (sym named) in
+    let stays : joined_behind command (word ∷ behind) ≡ word ∷ joined_behind command behind = rw (e, none) refl in
+    one_more done now (joined_behind command left) (joined_behind command behind) whole made h pushed
+    (ap (joined_behind command) words ∙ stays ∙ ap (λ (w : Text). w ∷ joined_behind command behind) (sym spelled))

@@ -1,4 +1,5 @@
 pub mod Words
+pub mod Tables
 pub mod Joined
 pub mod Values
 pub mod Asked

@@ -1,30 +1,167 @@
 //! The words that clap is given.
 
-ghost use Rattle.std.specs.Prelude.{◌≡◌, IfOk, IsOkAnd, codes, false};
-ghost use Rattle.clap.specs.Words.{AddsSubcommand, app_of, rule_of};
+ghost use Rattle.std.specs.Prelude.{◌≡◌, IfOk, false, map};
+ghost use Rattle.clap.specs.Words.{app_of, rule_of};
 ghost use Rattle.clap.specs.declared.builder.command.Command.TheViews.{out-Command as fields_of};
-ghost use Rattle.bor_words.specs.Words.{bor_app, check_app, exchange_app, files_rule, flag_rule, init_app, migrate_app, option_rule, report_app, required_rule, serve_app, with_entity, with_setup};
+ghost use Rattle.bor_words.specs.Tables.{app_at, local_rule, local_shape, rule_at, rule_in, shape_in};
+ghost use Rattle.bor_words.specs.Words.{bor_app, files_rule, flag_rule, option_rule, required_rule};
 
 use clap::{Arg, ArgAction, Command as Parser};
 use std::alloc::{AllocError, Global};
 
-const INIT_EXAMPLE: &str = "Example:
-  bor init --db register.db --registrar-file token --day 2024-02-01";
+// A command, with the words that it takes.
+#[derive(Clone, Copy)]
+struct CommandWords<'a> {
+    name: &'a str,
+    about: &'a str,
+    after_help: &'a str,
+    words: &'a [Word<'a>],
+}
 
-const EXCHANGE_EXAMPLE: &str = "Example:
-  bor exchange --db register.db --registrar registrar-token-0001 --day 2024-02-01 enrol.http lodge.http";
+// A word that a command takes: its name, the name of its value, and its help.
+#[derive(Clone, Copy)]
+enum Word<'a> {
+    Optional(&'a str, &'a str, &'a str),
+    Required(&'a str, &'a str, &'a str),
+    // It takes no value.
+    Flag(&'a str, &'a str),
+    // A file, which may be left out.
+    File(&'a str),
+    // One file or more.
+    Files(&'a str),
+}
 
-const SERVE_EXAMPLE: &str = "Example:
-  bor serve --db register.db --port 8080 --connections 1000";
+const COMMANDS: [CommandWords<'static>; 6] = [
+    CommandWords {
+        name: "check",
+        about: "Checks a BODS file, and prints what a register would make of it",
+        after_help: "Example:
+  bor check filing.json",
+        words: &[Word::File("The file; without it, or for -, standard input is read")],
+    },
+    CommandWords {
+        name: "init",
+        about: "Sets up a new register in a file that has none",
+        after_help: "Example:
+  bor init --db register.db --registrar-file token --day 2024-02-01",
+        words: &[
+            Word::Required(
+                "db",
+                "PATH",
+                "The register's file, which is made where there is none",
+            ),
+            REGISTRAR,
+            REGISTRAR_FILE,
+            FIRST_DAY,
+        ],
+    },
+    CommandWords {
+        name: "exchange",
+        about: "Answers HTTP requests in files, one after the other, and prints the replies",
+        after_help: "Example:
+  bor exchange --db register.db --registrar registrar-token-0001 --day 2024-02-01 enrol.http lodge.http",
+        words: &[
+            Word::Optional(
+                "db",
+                "PATH",
+                "The register's file, which is made where there is none; without it, the register is a new one in memory",
+            ),
+            REGISTRAR,
+            REGISTRAR_FILE,
+            FIRST_DAY,
+            Word::Files("The files, each with one HTTP request"),
+        ],
+    },
+    CommandWords {
+        name: "serve",
+        about: "Answers HTTP requests on 127.0.0.1, one after the other",
+        after_help: "Example:
+  bor serve --db register.db --port 8080 --connections 1000",
+        words: &[
+            REGISTER,
+            Word::Required("port", "PORT", "The port: 1 to 65535"),
+            Word::Required(
+                "connections",
+                "COUNT",
+                "After how many connections it ends: 0 to 1000000",
+            ),
+            Word::Optional(
+                "memory",
+                "MB",
+                "How much memory the register may take beside its file, in MB: 0 to 1000000; without it, 256",
+            ),
+            Word::Flag(
+                "log",
+                "A line for each request on standard error, with no token, key or body",
+            ),
+        ],
+    },
+    CommandWords {
+        name: "report",
+        about: "Prints which persons hold an entity, directly or through a chain, as an agent sees it",
+        after_help: "Example:
+  bor report --db register.db --viewer alder --agent alder --declaration c1 --record e1",
+        words: &[
+            REGISTER,
+            Word::Required(
+                "viewer",
+                "AGENT",
+                "Who asks: an agent's name, 1 to 32 of a-z, 0-9 and -",
+            ),
+            Word::Required(
+                "agent",
+                "AGENT",
+                "The agent that lodged the entity: an agent's name, 1 to 32 of a-z, 0-9 and -",
+            ),
+            Word::Required(
+                "declaration",
+                "IDENT",
+                "The declaration's subject: an identifier, 1 to 255 bytes without control characters",
+            ),
+            Word::Required(
+                "record",
+                "IDENT",
+                "The entity's record: an identifier, 1 to 255 bytes without control characters",
+            ),
+            Word::Optional(
+                "date",
+                "DAY",
+                "The date: a day, YYYY-MM-DD; without it, the register's day",
+            ),
+            Word::Flag(
+                "evidence",
+                "Tells why, too: each person's line ends with the first link of its chain, and below is a line for each link, with the next one",
+            ),
+        ],
+    },
+    CommandWords {
+        name: "migrate",
+        about: "Moves a register of version 1 to version 2, in which an interest counts within its dates",
+        after_help: "Example:
+  bor migrate --db register.db",
+        words: &[REGISTER],
+    },
+];
 
-const REPORT_EXAMPLE: &str = "Example:
-  bor report --db register.db --viewer alder --agent alder --declaration c1 --record e1";
+const REGISTER: Word<'static> = Word::Required("db", "PATH", "The register's file");
 
-const MIGRATE_EXAMPLE: &str = "Example:
-  bor migrate --db register.db";
+const REGISTRAR: Word<'static> = Word::Optional(
+    "registrar",
+    "TOKEN",
+    "The registrar's token of a new register: 16 to 64 visible ASCII characters",
+);
 
-const CHECK_EXAMPLE: &str = "Example:
-  bor check filing.json";
+const REGISTRAR_FILE: Word<'static> = Word::Optional(
+    "registrar-file",
+    "FILE",
+    "The file whose first line is that token, in place of --registrar",
+);
+
+const FIRST_DAY: Word<'static> = Word::Required(
+    "day",
+    "DAY",
+    "The day of a new register: a day, YYYY-MM-DD",
+);
 
 // `--name VALUE`, which may be left out.
 fn option<'a>(alloc: Global, name: &'a str, value: &'a str, help: &'a str) -> Arg<'a>
@@ -42,11 +179,7 @@ fn required<'a>(alloc: Global, name: &'a str, value: &'a str, help: &'a str) -> 
     ensures rule { rule_of result ≡ required_rule name.entry.now }
     ensures local { result.global ≡ false }
 {
-    Arg::new(alloc, name)
-        .long(name)
-        .value_name(value)
-        .required(true)
-        .help(help)
+    option(alloc, name, value, help).required(true)
 }
 
 // `--name`, which takes no value.
@@ -71,204 +204,62 @@ fn files<'a>(alloc: Global, help: &'a str) -> Arg<'a>
         .help(help)
 }
 
-// `--db PATH`, the register's file.
-fn register_file<'a>(alloc: Global, help: &'a str) -> Arg<'a>
-    ensures rule { rule_of result ≡ required_rule (codes "db") }
-    ensures local { result.global ≡ false }
-{
-    required(alloc, "db", "PATH", help)
+impl<'a> Word<'a> {
+    // The word as clap takes it.
+    fn argument(self, alloc: Global) -> Arg<'a>
+        ensures rule { rule_of result ≡ rule_at self.entry }
+        ensures local { result.global ≡ false }
+    {
+        match self {
+            Word::Optional(name, value, help) => option(alloc, name, value, help),
+            Word::Required(name, value, help) => required(alloc, name, value, help),
+            Word::Flag(name, help) => flag(alloc, name, help),
+            Word::File(help) => Arg::new(alloc, "FILE").help(help),
+            Word::Files(help) => files(alloc, help),
+        }
+    }
 }
 
-// The words that a register is set up by beside its file: the registrar's token and the day.
-fn with_setup<'a>(alloc: Global, parser: Parser<'a>) -> Result<Parser<'a>, AllocError>
-    ensures app { IfOk result (λ more. app_of more ≡ with_setup (app_of parser.entry)) }
-    ensures local { IfOk result (λ more.
-        (fields_of more).has_globals ≡ (fields_of parser.entry).has_globals) }
+fn arguments<'a>(alloc: Global, words: &[Word<'a>]) -> Result<Vec<Arg<'a>>, AllocError>
+    ensures { IfOk result (λ made. map rule_in made.items ≡ map local_rule words.now) }
 {
-    parser
-        .arg(option(
-            alloc,
-            "registrar",
-            "TOKEN",
-            "The registrar's token of a new register: 16 to 64 visible ASCII characters",
-        ))?
-        .arg(option(
-            alloc,
-            "registrar-file",
-            "FILE",
-            "The file whose first line is that token, in place of --registrar",
-        ))?
-        .arg(required(
-            alloc,
-            "day",
-            "DAY",
-            "The day of a new register: a day, YYYY-MM-DD",
-        ))
+    let mut made = Vec::new(alloc);
+    for word in words {
+        made.push(word.argument(alloc))?;
+    }
+    Ok(made)
 }
 
-// Which entity is asked about: who lodged it, in which declaration, as which record.
-fn with_entity<'a>(alloc: Global, parser: Parser<'a>) -> Result<Parser<'a>, AllocError>
-    ensures app { IfOk result (λ more. app_of more ≡ with_entity (app_of parser.entry)) }
-    ensures local { IfOk result (λ more.
-        (fields_of more).has_globals ≡ (fields_of parser.entry).has_globals) }
-{
-    parser
-        .arg(required(
-            alloc,
-            "agent",
-            "AGENT",
-            "The agent that lodged the entity: an agent's name, 1 to 32 of a-z, 0-9 and -",
-        ))?
-        .arg(required(
-            alloc,
-            "declaration",
-            "IDENT",
-            "The declaration's subject: an identifier, 1 to 255 bytes without control characters",
-        ))?
-        .arg(required(
-            alloc,
-            "record",
-            "IDENT",
-            "The entity's record: an identifier, 1 to 255 bytes without control characters",
-        ))
-}
-
-fn check<'a>(alloc: Global) -> Result<Parser<'a>, AllocError>
-    ensures app { IfOk result (λ parser. app_of parser ≡ check_app) }
+fn command<'a>(alloc: Global, command: &CommandWords<'a>) -> Result<Parser<'a>, AllocError>
+    ensures app { IfOk result (λ parser. app_of parser ≡ app_at command.now) }
     ensures local { IfOk result (λ parser. (fields_of parser).has_globals ≡ false) }
 {
-    let file = Arg::new(alloc, "FILE").help(
-        "The file; without it, or for -, standard input is read",
-    );
-    Parser::new(alloc, "check")
-        .about("Checks a BODS file, and prints what a register would make of it")
-        .after_help(CHECK_EXAMPLE)
-        .arg(file)
+    let arguments = arguments(alloc, command.words)?;
+    Parser::new(alloc, command.name)
+        .about(command.about)
+        .after_help(command.after_help)
+        .args(arguments)
 }
 
-fn init<'a>(alloc: Global) -> Result<Parser<'a>, AllocError>
-    ensures app { IfOk result (λ parser. app_of parser ≡ init_app) }
-    ensures local { IfOk result (λ parser. (fields_of parser).has_globals ≡ false) }
+fn commands<'a>(alloc: Global, commands: &[CommandWords<'a>]) -> Result<Vec<Parser<'a>>, AllocError>
+    ensures { IfOk result (λ made. map shape_in made.items ≡ map local_shape commands.now) }
 {
-    let parser = Parser::new(alloc, "init")
-        .about("Sets up a new register in a file that has none")
-        .after_help(INIT_EXAMPLE)
-        .arg(register_file(
-            alloc,
-            "The register's file, which is made where there is none",
-        ))?;
-    with_setup(alloc, parser)
-}
-
-fn exchange<'a>(alloc: Global) -> Result<Parser<'a>, AllocError>
-    ensures app { IfOk result (λ parser. app_of parser ≡ exchange_app) }
-    ensures local { IfOk result (λ parser. (fields_of parser).has_globals ≡ false) }
-{
-    let file = register_file(
-        alloc,
-        "The register's file, which is made where there is none; without it, the register is a new one in memory",
-    );
-    let parser = Parser::new(alloc, "exchange")
-        .about("Answers HTTP requests in files, one after the other, and prints the replies")
-        .after_help(EXCHANGE_EXAMPLE)
-        .arg(file.required(false))?;
-    with_setup(alloc, parser)?.arg(files(alloc, "The files, each with one HTTP request"))
-}
-
-fn serve<'a>(alloc: Global) -> Result<Parser<'a>, AllocError>
-    ensures app { IfOk result (λ parser. app_of parser ≡ serve_app) }
-    ensures local { IfOk result (λ parser. (fields_of parser).has_globals ≡ false) }
-{
-    Parser::new(alloc, "serve")
-        .about("Answers HTTP requests on 127.0.0.1, one after the other")
-        .after_help(SERVE_EXAMPLE)
-        .arg(register_file(alloc, "The register's file"))?
-        .arg(required(alloc, "port", "PORT", "The port: 1 to 65535"))?
-        .arg(required(
-            alloc,
-            "connections",
-            "COUNT",
-            "After how many connections it ends: 0 to 1000000",
-        ))?
-        .arg(option(
-            alloc,
-            "memory",
-            "MB",
-            "How much memory the register may take beside its file, in MB: 0 to 1000000; without it, 256",
-        ))?
-        .arg(flag(
-            alloc,
-            "log",
-            "A line for each request on standard error, with no token, key or body",
-        ))
-}
-
-fn report<'a>(alloc: Global) -> Result<Parser<'a>, AllocError>
-    ensures app { IfOk result (λ parser. app_of parser ≡ report_app) }
-    ensures local { IfOk result (λ parser. (fields_of parser).has_globals ≡ false) }
-{
-    let parser = Parser::new(alloc, "report")
-        .about(
-            "Prints which persons hold an entity, directly or through a chain, as an agent sees it",
-        )
-        .after_help(REPORT_EXAMPLE)
-        .arg(register_file(alloc, "The register's file"))?
-        .arg(required(
-            alloc,
-            "viewer",
-            "AGENT",
-            "Who asks: an agent's name, 1 to 32 of a-z, 0-9 and -",
-        ))?;
-    with_entity(alloc, parser)?
-        .arg(option(
-            alloc,
-            "date",
-            "DAY",
-            "The date: a day, YYYY-MM-DD; without it, the register's day",
-        ))?
-        .arg(flag(
-            alloc,
-            "evidence",
-            "Tells why, too: each person's line ends with the first link of its chain, and below is a line for each link, with the next one",
-        ))
-}
-
-fn migrate<'a>(alloc: Global) -> Result<Parser<'a>, AllocError>
-    ensures app { IfOk result (λ parser. app_of parser ≡ migrate_app) }
-    ensures local { IfOk result (λ parser. (fields_of parser).has_globals ≡ false) }
-{
-    Parser::new(alloc, "migrate")
-        .about(
-            "Moves a register of version 1 to version 2, in which an interest counts within its dates",
-        )
-        .after_help(MIGRATE_EXAMPLE)
-        .arg(register_file(alloc, "The register's file"))
-}
-
-// The parser with a command more, where that was made.
-fn with_command<'a>(
-    parser: Parser<'a>,
-    command: Result<Parser<'a>, AllocError>,
-) -> Result<Parser<'a>, AllocError>
-    ensures { IfOk result (λ more. IsOkAnd command.entry (λ made.
-        AddsSubcommand parser.entry made more)) }
-{
-    parser.subcommand(command?)
+    let mut made = Vec::new(alloc);
+    for words in commands {
+        made.push(command(alloc, words)?)?;
+    }
+    Ok(made)
 }
 
 /// The words that `bor` takes.
 pub fn parser<'a>(alloc: Global) -> Result<Parser<'a>, AllocError>
     ensures { IfOk result (λ parser. app_of parser ≡ bor_app) }
 {
-    let parser = Parser::new(alloc, "bor")
+    let commands = commands(alloc, &COMMANDS)?;
+    Parser::new(alloc, "bor")
         .bin_name("bor")?
         .no_binary_name(true)
         .about("A register of beneficial ownership")
-        .after_help("Without a command, standard input is checked. The pages of the commands:");
-    let parser = with_command(parser, check(alloc))?;
-    let parser = with_command(parser, init(alloc))?;
-    let parser = with_command(parser, exchange(alloc))?;
-    let parser = with_command(parser, serve(alloc))?;
-    let parser = with_command(parser, report(alloc))?;
-    with_command(parser, migrate(alloc))
+        .after_help("Without a command, standard input is checked. The pages of the commands:")
+        .subcommands(commands)
 }
