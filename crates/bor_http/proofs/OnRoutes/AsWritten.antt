@@ -1,13 +1,14 @@
 -- The path that is found for a text is the one that it is as it stands.
-use Rattle.std.proofs.Common.{◌≡◌, ℕ, inl, inr, List, [], ◌∷◌, ◌++◌, length, drop, get_or, nat_eq, Option, Some, None, Bool, true, false, codes, refl, sym, ap, ◌∙◌, subst, arith, append-nil, append_assoc, ◌↔◌}
-use Rattle.std.specs.Prelude.{IsUtf8, ⊤}
+use Rattle.std.proofs.Common.{◌≡◌, ℕ, inl, inr, List, [], ◌∷◌, ◌++◌, length, drop, get_or, map, nat_eq, Option, Some, None, Bool, true, false, codes, refl, sym, ap, ◌∙◌, subst, arith, append-nil, append_assoc, ◌↔◌}
+use Rattle.std.specs.Prelude.{IsUtf8, ⊤, if◌then◌else◌}
 use Rattle.std.specs.List.{starts_with}
-use Rattle.std.specs.Option.{option_map}
+use Rattle.std.specs.Option.{is_none, option_map}
 use Rattle.std.proofs.lemmas.Bool.Decides.{Decides-eqb}
 use Rattle.std.proofs.lemmas.Option.{none-some, same_Some}
 use Rattle.std.proofs.lemmas.Slice.Eq.{starts_is}
 use Rattle.matchit.specs.Level.{IsText}
-use Rattle.matchit.specs.Rows.{Rows}
+use Rattle.matchit.specs.Rows.{Rows, RowsOf}
+use Rattle.matchit.specs.Route.{parse_route}
 use Rattle.matchit.specs.Router.{RouteOf, map_key, rename}
 use Rattle.matchit.specs.Seek.{first, has_slash}
 use Rattle.matchit.proofs.OnLiterals.{matchit_on_literals}
@@ -18,10 +19,10 @@ use Rattle.bor_http.specs.declared.incoming.fault.Path.TheVariants as paths
 use Rattle.bor_http.specs.declared.routes.route.Route.TheVariants.{Lodge}
 use Rattle.bor_http.specs.Incoming.Words.{path_word}
 use Rattle.bor_http.specs.Routes.Paths.{IsSegment, IsPath}
-use Rattle.bor_http.specs.Routes.Routers.{router, path_in}
+use Rattle.bor_http.specs.Routes.Routers.{router, path_in, with_paths, with_scan}
 use Rattle.bor_http.specs.Routes.Routes.{every_route, route_line}
 use Rattle.bor_http.proofs.OnIncoming.HeadLemmas.{chosen}
-use Rattle.bor_http.proofs.OnRoutes.Keys.{keyed, keyed_alone, keyed_slash, named, named_alone, named_slash, no_key, parted, slash_is}
+use Rattle.bor_http.proofs.OnRoutes.Keys.{alone, alone_slash, keyed, keyed_alone, keyed_slash, named, named_alone, no_key, parted, slash_is}
 use Rattle.bor_http.proofs.OnRoutes.Rows.{AreApart, branches, literal, walk, walks}
 use Rattle.bor_http.proofs.OnRoutes.Utf8Bytes.{text_bytes}
 
@@ -60,21 +61,60 @@ from_slash = (codes "/", branches of_all []) ∷ []
 abbrev numbered : Rows
 numbered = branches from_slash []
 
-same_rows : rename (λ (row : RouteOf Path). row.value) router ≡ rename path_at numbered
-unfolding matchit_on_literals router
-same_rows = refl
-
 as_mapped : {A B : Type 0} (f : A → B) (o : Option A) → map_key f o ≡ option_map f o
 as_mapped f None = refl
 as_mapped f (Some x) = refl
 
+-- rows that have the patterns and the paths of numbered ones
+abbrev AreNumbered : RowsOf (RouteOf Path) → Rows → Type 0
+AreNumbered rows by_number = rename (λ row. row.value) rows ≡ rename path_at by_number
+
+found_by : (rows : RowsOf (RouteOf Path)) (by_number : Rows) → AreNumbered rows by_number → (text : List ℕ) → path_in rows text ≡ option_map path_at (first by_number text)
+found_by rows by_number same text =
+    sym (as_mapped (λ (row : RouteOf Path). row.value) (first rows text))
+    ∙ sym (first-rename (λ (row : RouteOf Path). row.value) rows text)
+    ∙ ap (λ rows. first rows text) same
+    ∙ first-rename path_at by_number text
+    ∙ as_mapped path_at (first by_number text)
+
+-- ---- the paths before that of a filing's file, which do not match it, and those behind it
+
+abbrev before_file : RowsOf (RouteOf Path)
+before_file = with_paths [] (paths.Filing ∷ paths.Filing ∷ paths.Filings ∷ [])
+
+abbrev behind_file : List Path
+behind_file = map (λ route. (route_line route).path) (drop 4 every_route)
+
+abbrev of_one : List (List ℕ × Rows)
+of_one = (codes "/", alone 0) ∷ []
+
+abbrev of_two : List (List ℕ × Rows)
+of_two = (codes "/filings", branches of_one (end 2)) ∷ []
+
+two_rows : AreNumbered before_file (branches of_two [])
+unfolding matchit_on_literals
+two_rows = refl
+
+no_file : path_in before_file (path_word paths.File) ≡ None
+no_file =
+    found_by before_file (branches of_two []) two_rows (path_word paths.File)
+    ∙ ap (option_map path_at) (walks of_two [] (path_word paths.File) (assumption)
+    ∙ walks of_one (end 2) (codes "/{key}/file") (assumption)
+    ∙ alone_slash 0 123 (codes "key}/file") (omega arith) refl)
+
+abbrev with_file : RowsOf (RouteOf Path)
+with_file = with_scan (parse_route (path_word paths.File)) paths.File before_file
+
+all_rows : AreNumbered (with_paths with_file behind_file) numbered
+unfolding matchit_on_literals
+all_rows = refl
+
+same_rows : AreNumbered router numbered
+unfolding router
+same_rows = ap (λ found. rename (λ (row : RouteOf Path). row.value) (with_paths (if is_none found then with_file else before_file) behind_file)) no_file ∙ all_rows
+
 found_in : (text : List ℕ) → path_in router text ≡ option_map path_at (first numbered text)
-found_in text =
-    sym (as_mapped (λ (row : RouteOf Path). row.value) (first router text))
-    ∙ sym (first-rename (λ (row : RouteOf Path). row.value) router text)
-    ∙ ap (λ rows. first rows text) same_rows
-    ∙ first-rename path_at numbered text
-    ∙ as_mapped path_at (first numbered text)
+found_in text = found_by router numbered same_rows text
 
 all_apart : AreApart of_all []
 all_apart = assumption
@@ -152,7 +192,7 @@ named_means [] k bytes e = absurd (none-some k e)
 named_means (b ∷ name) k bytes e = by_slash (has_slash (b ∷ name)) refl
   where
     by_slash : (slash : Bool) → has_slash (b ∷ name) ≡ slash → IsPath (path_at k) (codes "/agents/" ++ b ∷ name)
-    by_slash true h = absurd (none-some k (sym (named_slash b name bytes.0 h) ∙ e))
+    by_slash true h = absurd (none-some k (sym (alone_slash 11 b name bytes.0 h) ∙ e))
     by_slash false h =
         let segment : IsSegment (b ∷ name) = record { some = omega arith; one = sym (slash_is (b ∷ name)) ∙ h } in
         subst (λ i. IsPath (path_at i) (codes "/agents/" ++ b ∷ name)) (same_Some 11 k (sym (named_alone (b ∷ name) bytes segment.some h) ∙ e)) (b ∷ name, segment, refl)

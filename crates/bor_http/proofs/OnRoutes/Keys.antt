@@ -59,15 +59,18 @@ segment-front (b ∷ key) rest h = grind (arith, segment-front key rest)
 taken : (ss : List Seen) (v b : ℕ) (p : List ℕ) → b < 256 → first (level [] ss (Some v) None None) (b ∷ p) ≡ after_param (rows_of ss ++ ends (Some v)) (b ∷ p)
 taken ss v b p lt = level-cons [] [] ss (Some v) None None b p tt lt ∙ rw (seek-empty 0 p, or_else-none) refl
 
+abbrev pub alone : ℕ → Rows
+alone k = (256 ∷ [], k) ∷ []
+
+pub alone_slash : (k b : ℕ) (p : List ℕ) → b < 256 → has_slash (b ∷ p) ≡ true → first (alone k) (b ∷ p) ≡ None
+alone_slash k b p lt slash = taken [] k b p lt ∙ after_param-stop [] (Some k) b p refl slash
+
 abbrev pub named : Rows
-named = (256 ∷ [], 11) ∷ []
+named = alone 11
 
 pub named_alone : (name : List ℕ) → IsText name → 0 < length name → has_slash name ≡ false → first named name ≡ Some 11
 named_alone [] bytes some none = absurd (omega arith)
 named_alone (b ∷ p) bytes some none = taken [] 11 b p bytes.0 ∙ after_param-end [] (Some 11) b p tt refl none
-
-pub named_slash : (b : ℕ) (p : List ℕ) → b < 256 → has_slash (b ∷ p) ≡ true → first named (b ∷ p) ≡ None
-named_slash b p lt slash = taken [] 11 b p lt ∙ after_param-stop [] (Some 11) b p refl slash
 
 abbrev pub keyed : Rows
 keyed = (256 ∷ codes "/file", 3) ∷ (256 ∷ [], 0) ∷ []

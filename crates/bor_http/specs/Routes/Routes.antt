@@ -1,6 +1,7 @@
 -- The routes: what each path asks for by which method.
 use Rattle.std.specs.Prelude.{ℕ, List, [], ◌∷◌, ◌++◌, ◌&&◌, Bool, map, find, Option}
 use Rattle.std.specs.Prelude.{codes, if◌then◌else◌}
+use Rattle.std.specs.Borrow.{Bor}
 use Rattle.std.specs.List.{filter}
 use Rattle.std.specs.Str.{bytes_eq}
 use Rattle.std.specs.Ordering.{nat_cmp, is_lt}
@@ -41,6 +42,13 @@ every_route =
     asks.Lodge ∷ asks.Withdraw ∷ asks.Filings ∷ asks.File ∷ asks.Published ∷ asks.Snapshot
     ∷ asks.Chains ∷ asks.Evidence ∷ asks.Entities ∷ asks.Day ∷ asks.Enrol ∷ asks.Renew
     ∷ asks.Register ∷ []
+
+-- a line as the code has it, and the table of such lines
+abbrev pub line_said : Path × Bor (List ℕ) × Route → Line × Route
+line_said line = (by line.1.now line.0, line.2)
+
+abbrev pub table : List (Line × Route)
+table = map (λ route. (route_line route, route)) every_route
 
 abbrev pub is_same_path : Path → Path → Bool
 is_same_path a b = bytes_eq (path_word a) (path_word b)

@@ -5,7 +5,7 @@ ghost use Rattle.bor_http.specs.Routes.Paths.{IsPath, path_of, path_spelled};
 ghost use Rattle.bor_http.specs.Routes.Routers.{path_in, router, with_path};
 
 use crate::incoming::Path;
-use crate::routes::route::ROUTES;
+use crate::routes::route::lines;
 use matchit::{InsertError, Router};
 use std::alloc::{AllocError, Global};
 
@@ -34,7 +34,7 @@ fn router_of_paths(alloc: Global) -> Result<Router<Path>, InsertError>
     ensures { IfOk result (λ paths. paths ≡ router) }
 {
     let mut router = Router::new(alloc);
-    for line in ROUTES {
+    for line in lines() {
         add(&mut router, line.0)?;
     }
     Ok(router)

@@ -1,5 +1,5 @@
 //! The table of routes, and the methods of a path.
-ghost use Rattle.std.specs.Prelude.{◌≡◌, ◌&&◌, Some};
+ghost use Rattle.std.specs.Prelude.{◌≡◌, ◌&&◌, map, Some};
 ghost use Rattle.std.specs.Str.{bytes_eq};
 ghost use Rattle.bor_http.specs.Routes.Routes as spec;
 
@@ -38,7 +38,7 @@ pub enum Route {
 
 /// The table of routes, in the order of [`Route`]: the path and the method that each is asked for
 /// by.
-pub(super) const ROUTES: [(Path, &str, Route); 13] = [
+const ROUTES: [(Path, &str, Route); 13] = [
     (Path::Filing, "PUT", Route::Lodge),
     (Path::Filing, "DELETE", Route::Withdraw),
     (Path::Filings, "GET", Route::Filings),
@@ -54,11 +54,18 @@ pub(super) const ROUTES: [(Path, &str, Route); 13] = [
     (Path::Register, "GET", Route::Register),
 ];
 
+// The lines of the table.
+pub(super) fn lines() -> &'static [(Path, &'static str, Route)]
+    ensures { map spec.line_said result.now ≡ spec.table }
+{
+    &ROUTES
+}
+
 // Whether a line has the path and the method.
 #[tactic(auto, using(crate::proofs::OnRoutes::Lines::same_path, crate::proofs::OnRoutes::Lines::other_path))]
-fn has_both(line: (Path, &'static str, Route), path: Path, method: &[u8]) -> bool
-    ensures { result ≡ (spec.is_same_path line.entry.0 path
-        && bytes_eq line.entry.1.now method.now) }
+fn has_both(line: &(Path, &'static str, Route), path: Path, method: &[u8]) -> bool
+    ensures { result ≡ (spec.is_same_path line.now.0 path
+        && bytes_eq line.now.1.now method.now) }
 {
     line.0 == path && line.1.as_bytes() == method
 }
@@ -69,7 +76,7 @@ fn has_both(line: (Path, &'static str, Route), path: Path, method: &[u8]) -> boo
 pub fn route_at(path: Path, method: &[u8]) -> Option<Route>
     ensures { result ≡ spec.route_at path method.now }
 {
-    for line in ROUTES {
+    for line in lines() {
         if has_both(line, path, method) {
             return Some(line.2);
         }
@@ -84,7 +91,7 @@ pub fn line_of(route: Route) -> (Path, &'static str)
     ensures method { result.1.now ≡ (spec.route_line route).method }
     ensures route { spec.route_at result.0 result.1.now ≡ Some route }
 {
-    let (path, method, _) = ROUTES[route as usize];
+    let (path, method, _) = lines()[route as usize];
     (path, method)
 }
 
