@@ -1,15 +1,15 @@
 -- The settled statements of a file may be added to the live ones that they were settled after.
-use Rattle.std.proofs.Common.{◌≡◌, ℕ, ◌+◌, ℤ, List, [], ◌∷◌, ◌++◌, map, Result, Ok, Err, false, refl, subst, arith}
-use Rattle.std.specs.Prelude.{All, IsSome}
+use Rattle.std.proofs.Common.{◌≡◌, ℕ, ◌+◌, ℤ, List, [], ◌∷◌, ◌++◌, map, Bool, Result, Ok, Err, true, false, if◌then◌else◌, refl, sym, ◌∙◌, subst}
+use Rattle.std.specs.Prelude.{All, IsSome, ◌||◌}
 use Rattle.std.specs.List.{IsDistinct, AllByRecursion}
 use Rattle.std.proofs.lemmas.List.Elements.{All-nil, All-cons, All-head, All-tail, All-weaker}
 use Rattle.std.proofs.lemmas.Map.Keys.{IsDistinct-cons}
 use Rattle.bor_terms.specs.Texts.{is_same}
 use Rattle.bods_read.specs.declared.statement.Statement.{Statement}
 use Rattle.bods_read.specs.declared.statement.Status.{Status}
-use Rattle.bor_records.specs.Admission.{Live}
-use Rattle.bor_records.specs.Settling.{Refusal, PlacedRefusal, has_id, verdict, as_settled, as_live, ahead, settled_then, settled_from, settled}
-use Rattle.bor_records.proofs.Settled.{has_id-append, verdict_is}
+use Rattle.bor_records.specs.Admission.{Live, admitted}
+use Rattle.bor_records.specs.Settling.{Refusal, PlacedRefusal, statement_twice, has_id, verdict, as_settled, as_live, ahead, settled_then, settled_from, settled}
+use Rattle.bor_records.proofs.Settled.{has_id-append, of_rules, verdict_is}
 use Rattle.bor_register.specs.Live.{AreNew}
 
 -- ---- no statement, and one statement before others
@@ -18,9 +18,15 @@ none_new : (live : List Live) → AreNew live []
 unfolding IsDistinct
 none_new live = record { settled = All-nil _; distinct = tt; free = All-nil _ }
 
+either_false : (a b : Bool) → (a || b) ≡ false → (a ≡ false) × (b ≡ false)
+either_false false b h = (refl, h)
+either_false true b h = absurd cc
+
 -- an identifier that isn't live once the statement is: neither the live ones' nor the statement's
 free_before : (live : List Live) (due : ℤ) (s t : Statement) → has_id t.id (live ++ as_live due s ∷ []) ≡ false → (has_id t.id live ≡ false) × (is_same s.id t.id ≡ false)
-free_before live due s t h = grind (arith, has_id-append t.id live (as_live due s ∷ []))
+free_before live due s t h =
+    let e = either_false (has_id t.id live) (has_id t.id (as_live due s ∷ [])) (sym (has_id-append t.id live (as_live due s ∷ [])) ∙ h) in
+    (e.0, (either_false (is_same s.id t.id) false e.1).0)
 
 ids_other : (id : List ℕ) (ss : List Statement) → All (λ t. is_same id t.id ≡ false) ss → AllByRecursion (λ other. is_same id other ≡ false) (map (λ s. s.id) ss)
 ids_other id [] h = tt
@@ -38,7 +44,11 @@ new_ahead live due s ss status free rest =
     }
 
 not_taken : (live : List Live) (s : Statement) (due : ℤ) (status : Status) → verdict live s due ≡ Ok status → has_id s.id live ≡ false
-not_taken live s due status h = grind (arith, verdict_is live s due)
+not_taken live s due status h = go (has_id s.id live) (sym (verdict_is live s due) ∙ h)
+  where
+    go : (b : Bool) → (if b then Err statement_twice else of_rules (admitted live s due)) ≡ Ok status → b ≡ false
+    go false e = refl
+    go true e = absurd cc
 
 settled-new : (place : ℕ) (live : List Live) (due : ℤ) (file ss : List Statement) → settled_from place live due file ≡ Ok ss → AreNew live ss
 settled-new place live due [] ss h = subst (AreNew live) (let same : [] ≡ ss = cc in same) (none_new live)

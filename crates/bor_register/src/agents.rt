@@ -27,16 +27,23 @@ fn published_count(filings: &[AcceptedFiling], day: Day) -> usize
         .count()
 }
 
+// An agent's line on a day.
+fn agent_line(alloc: Global, member: &Member, day: Day) -> Result<AgentLine, AllocError>
+    ensures { IfOk result (λ line. line ≡ agent_line day member.now) }
+{
+    Ok(AgentLine {
+        agent: member.name.copy(alloc)?,
+        published: published_count(member.filings.as_slice(), day),
+    })
+}
+
 /// The lines of all agents on a day, by name.
 pub fn all_agents(alloc: Global, members: &[Member], day: Day) -> Result<Vec<AgentLine>, AllocError>
     ensures { IfOk result (λ lines. lines.items ≡ map (agent_line day) members.now) }
 {
     let mut lines = Vec::new(alloc);
     for member in members {
-        lines.push(AgentLine {
-            agent: member.name.copy(alloc)?,
-            published: published_count(member.filings.as_slice(), day),
-        })?;
+        lines.push(agent_line(alloc, member, day)?)?;
     }
     Ok(lines)
 }

@@ -168,8 +168,8 @@ pub(crate) fn renew_token(
     ensures ok { OnOk result (members.new ≡ with_token name.now token.now members.old) }
     ensures err { OnErr result (members.new ≡ members.old) }
 {
-    let token = token.copy(alloc)?;
     if let Some(at) = position(members, name) {
+        let token = token.copy(alloc)?;
         members[at].token = token;
     }
     Ok(())

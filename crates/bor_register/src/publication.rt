@@ -33,7 +33,6 @@ fn add_outwards(
 
 /// The outward forms of the filings that are published on a day, which all see: by agent, those of
 /// an agent in order of acceptance.
-#[tactic(auto, using(crate::proofs::SeenRows::published_added))]
 pub fn all_published(
     alloc: Global,
     members: &[Member],

@@ -110,7 +110,6 @@ pub fn rows_seen(
 
 /// The rows of all agents that the viewer sees on a day: by agent, then in order of acceptance and
 /// of place. A viewer that isn't among the members sees what is published.
-#[tactic(auto, using(crate::proofs::SeenRows::agent_added))]
 pub fn all_visible(
     alloc: Global,
     viewer: &AgentName,

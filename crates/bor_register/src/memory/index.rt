@@ -1,13 +1,17 @@
 //! Maps beside the filings of a register in memory, so that what is asked of a record takes no
 //! scan.
 
-ghost use Rattle.std.specs.Prelude.{◌≡◌, ◌∷◌, [], OnOk, IfOk};
+ghost use Rattle.std.specs.Prelude.{◌≡◌, ◌<◌, ◌++◌, ◌∷◌, [], OnOk, IfOk, IfSome, if◌then◌else◌, option_map, slice_get};
+ghost use Rattle.std.specs.Ordering.{is_eq};
 ghost use Rattle.bor_records.specs.Links.Nodes.{node_cmp};
 ghost use Rattle.bor_records.specs.Links.Series.{stated};
 ghost use Rattle.bor_records.specs.Links.Signs.{sign_cmp};
-ghost use Rattle.bor_records.specs.Links.Values.{under};
-ghost use Rattle.bor_register.specs.Memory.Indexed.{IsGrown, IsIndex, key_cmp, signs_stated, subjects_of};
+ghost use Rattle.bor_records.specs.Links.Values.{IsNoted, under};
+ghost use Rattle.bor_register.specs.Memory.Indexed.{IsGrown, IsIndex, key_cmp, key_of, signs_stated, subjects_of};
+ghost use Rattle.bor_register.specs.declared.memory.index.StatementKey.{StatementKey};
+ghost use Rattle.bor_records.specs.declared.links.node.Node.{Node};
 
+use crate::AcceptedFiling;
 use bods_read::{Details, Statement};
 use bor_records::links::values::{self, Values};
 use bor_records::links::{Node, Sign, push_signs};
@@ -21,6 +25,24 @@ use std::collections::BTreeMap;
 pub(crate) struct Place {
     pub(crate) filing: usize,
     pub(crate) statement: usize,
+}
+
+impl Place {
+    /// The filing there.
+    pub(crate) fn filing_in<'a>(self, filings: &'a [AcceptedFiling]) -> Option<&'a AcceptedFiling>
+        ensures { option_map (λ f. f.now) result ≡ slice_get filings.now self.filing }
+    {
+        filings.get(self.filing)
+    }
+
+    /// The statement of its filing there.
+    pub(crate) fn statement_in<'a>(self, filing: &'a AcceptedFiling) -> Option<&'a Statement>
+        ensures value { option_map (λ s. s.now) result
+            ≡ slice_get filing.now.statements self.statement }
+        ensures below_max { IfSome result (λ s. self.statement < usize.MAX) }
+    {
+        filing.statements.as_slice().get(self.statement)
+    }
 }
 
 /// An agent's statement, by its identifier. The identifier is compared first: most statements are
@@ -88,18 +110,11 @@ impl Index {
         ensures { OnOk result
             (IsGrown agent.now place.filing place.statement (statement.now ∷ []) self.old self.new) }
     {
+        put_named(alloc, &mut self.named, agent, statement, place)?;
         let node = record_of(alloc, agent, statement)?;
-        let subjects = subjects_of(alloc, agent, statement)?;
-        values::note(alloc, &mut self.naming, subjects, &node)?;
-        let signs = signs_of(alloc, &node, statement)?;
-        values::note(alloc, &mut self.signed, signs, &node)?;
-        let key = StatementKey {
-            id: statement.id.copy(alloc)?,
-            agent: agent.copy(alloc)?,
-        };
-        values::put(alloc, &mut self.named, key, place)?;
-        values::put(alloc, &mut self.series, node, place)?;
-        Ok(())
+        note_subject(alloc, &mut self.naming, agent, statement, &node)?;
+        note_signs(alloc, &mut self.signed, statement, &node)?;
+        put_record(alloc, &mut self.series, node, place)
     }
 
     /// The places of a record's statements.
@@ -148,6 +163,20 @@ pub(crate) fn node_named(
     })
 }
 
+/// An agent's statement, by its identifier.
+pub(crate) fn key_named(
+    alloc: Global,
+    agent: &AgentName,
+    id: &Ident,
+) -> Result<StatementKey, AllocError>
+    ensures { IfOk result (λ key. key ≡ record { id = id.now; agent = agent.now }) }
+{
+    Ok(StatementKey {
+        id: id.copy(alloc)?,
+        agent: agent.copy(alloc)?,
+    })
+}
+
 /// The record that an agent's statement is of.
 pub(crate) fn record_of(
     alloc: Global,
@@ -178,6 +207,53 @@ fn subjects_of(
     Ok(subjects)
 }
 
+// Puts a statement's place under its record.
+fn put_record(
+    alloc: Global,
+    series: &mut BTreeMap<Node, Values<Place>>,
+    node: Node,
+    place: Place,
+) -> Result<(), AllocError>
+    ensures { OnOk result ((n : Node) → under node_cmp series.new n
+        ≡ under node_cmp series.old n ++ (if is_eq (node_cmp node n) then place ∷ [] else [])) }
+{
+    values::put(alloc, series, node, place)?;
+    Ok(())
+}
+
+// Puts a statement's place under its identifier.
+fn put_named(
+    alloc: Global,
+    named: &mut BTreeMap<StatementKey, Values<Place>>,
+    agent: &AgentName,
+    statement: &Statement,
+    place: Place,
+) -> Result<(), AllocError>
+    ensures { OnOk result ((k : StatementKey) → under key_cmp named.new k
+        ≡ under key_cmp named.old k ++ (if is_eq (key_cmp (key_of agent.now statement.now) k)
+        then place ∷ [] else [])) }
+{
+    let key = key_named(alloc, agent, &statement.id)?;
+    values::put(alloc, named, key, place)?;
+    Ok(())
+}
+
+// Puts a statement's record under the subject that it names.
+fn note_subject(
+    alloc: Global,
+    naming: &mut BTreeMap<Node, Values<Node>>,
+    agent: &AgentName,
+    statement: &Statement,
+    node: &Node,
+) -> Result<(), AllocError>
+    ensures { OnOk result (IsNoted (subjects_of agent.now statement.now) node.now
+        (under node_cmp naming.old) (under node_cmp naming.new)) }
+{
+    let subjects = subjects_of(alloc, agent, statement)?;
+    values::note(alloc, naming, subjects, node)?;
+    Ok(())
+}
+
 // The signs of the entity that a statement of this record makes.
 fn signs_of(alloc: Global, node: &Node, statement: &Statement) -> Result<Vec<Sign>, AllocError>
     ensures { IfOk result (λ signs. signs.items ≡ signs_stated node.now statement.now.details) }
@@ -188,4 +264,19 @@ fn signs_of(alloc: Global, node: &Node, statement: &Statement) -> Result<Vec<Sig
         push_signs(alloc, &mut signs, identifiers.as_slice())?;
     }
     Ok(signs)
+}
+
+// Puts a statement's record under the signs of the entity that it makes.
+fn note_signs(
+    alloc: Global,
+    signed: &mut BTreeMap<Sign, Values<Node>>,
+    statement: &Statement,
+    node: &Node,
+) -> Result<(), AllocError>
+    ensures { OnOk result (IsNoted (signs_stated node.now statement.now.details) node.now
+        (under sign_cmp signed.old) (under sign_cmp signed.new)) }
+{
+    let signs = signs_of(alloc, node, statement)?;
+    values::note(alloc, signed, signs, node)?;
+    Ok(())
 }

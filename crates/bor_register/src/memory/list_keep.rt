@@ -23,7 +23,7 @@ ghost use Rattle.bor_terms.specs.Texts.{is_below};
 
 use crate::keeping::Keep;
 use crate::member::find_filings;
-use crate::memory::index::{Index, StatementKey, node_named};
+use crate::memory::index::{Index, key_named, node_named};
 use crate::memory::records::Sighted;
 use crate::memory::sight::{Sight, node_told, row_told};
 use crate::memory::standing::{any_stands, last_known};
@@ -417,16 +417,6 @@ fn index_with(
         index = index.with_filing(alloc, agent, i, filing.statements.as_slice())?;
     }
     Ok(index)
-}
-
-// An agent's statement, by its identifier.
-fn key_named(alloc: Global, agent: &AgentName, id: &Ident) -> Result<StatementKey, AllocError>
-    ensures { IfOk result (λ key. key ≡ record { id = id.now; agent = agent.now }) }
-{
-    Ok(StatementKey {
-        id: id.copy(alloc)?,
-        agent: agent.copy(alloc)?,
-    })
 }
 
 impl Keep for ListKeep {

@@ -37,10 +37,10 @@ fn is_told(sight: &Sight, agent: &AgentName, filings: &[AcceptedFiling], place: 
     ensures { result ≡ passes (is_told sight.now.viewer.now sight.now.today sight.now.day agent.now)
         (sited_at filings.now place) }
 {
-    let Some(filing) = filings.get(place.filing) else {
+    let Some(filing) = place.filing_in(filings) else {
         return false;
     };
-    match filing.statements.as_slice().get(place.statement) {
+    match place.statement_in(filing) {
         Some(statement) => {
             filing.is_visible(sight.viewer, agent, sight.today) && statement.day <= sight.day
         }
@@ -75,8 +75,8 @@ pub(crate) fn statement_at<'a>(filings: &'a [AcceptedFiling], place: Place) -> O
     ensures { option_map (λ s. s.now) result
         ≡ option_map (λ x. x.statement) (sited_at filings.now place) }
 {
-    match filings.get(place.filing) {
-        Some(filing) => filing.statements.as_slice().get(place.statement),
+    match place.filing_in(filings) {
+        Some(filing) => place.statement_in(filing),
         None => None,
     }
 }
@@ -143,10 +143,10 @@ fn row_at(
     ensures { IfOk result (λ row. row ≡ option_and_then row_unless_closed
         (option_map (row_sited agent.now) (sited_at filings.now place))) }
 {
-    let Some(filing) = filings.get(place.filing) else {
+    let Some(filing) = place.filing_in(filings) else {
         return Ok(None);
     };
-    match filing.statements.as_slice().get(place.statement) {
+    match place.statement_in(filing) {
         Some(statement) => row_open(alloc, agent, filing.number, place.statement + 1, statement),
         None => Ok(None),
     }

@@ -18,10 +18,10 @@ fn known_at(filings: &[AcceptedFiling], place: Place) -> Option<Last>
     ensures { result ≡ option_map (λ x. known_of (as_live x.filing.due x.statement))
         (sited_at filings.now place) }
 {
-    let Some(filing) = filings.get(place.filing) else {
+    let Some(filing) = place.filing_in(filings) else {
         return None;
     };
-    match filing.statements.as_slice().get(place.statement) {
+    match place.statement_in(filing) {
         Some(statement) => Some(known(statement, filing.due)),
         None => None,
     }
@@ -31,8 +31,8 @@ fn known_at(filings: &[AcceptedFiling], place: Place) -> Option<Last>
 fn stands(filings: &[AcceptedFiling], place: Place) -> bool
     ensures { result ≡ passes (λ x. true) (sited_at filings.now place) }
 {
-    match filings.get(place.filing) {
-        Some(filing) => filing.statements.as_slice().get(place.statement).is_some(),
+    match place.filing_in(filings) {
+        Some(filing) => place.statement_in(filing).is_some(),
         None => false,
     }
 }
