@@ -1,21 +1,11 @@
 -- The order and the maps of members that are looked at one after another.
-use Rattle.std.proofs.Common.{◌≡◌, ◌+◌, ◌<◌, ◌++◌, ℕ, true, false, cond, List, [], ◌∷◌, Contains, drop, take, length, get_or, append_assoc, sym, refl, ap, ◌∙◌, subst, inl, inr, ◌-◌, ◌≤◌, arith}
-use Rattle.std.specs.Ordering.{is_eq}
-use Rattle.std.specs.declared.cmp.Ordering.{Ordering}
+use Rattle.std.proofs.Common.{◌≡◌, ◌+◌, ◌<◌, ◌++◌, ℕ, true, false, List, [], ◌∷◌, drop, take, length, get_or, sym, refl, ap, ◌∙◌, subst, ◌-◌, ◌≤◌, arith}
 use Rattle.std.proofs.lemmas.List.{drop_more, length-take-le, take-append-drop, take_more}
-use Rattle.std.proofs.lemmas.Map.Lookups.{CmpEqualImpliesEq}
-use Rattle.std.proofs.lemmas.Map.Views.{tells_apart}
 use Rattle.bor_terms.specs.Texts.{is_below}
 use Rattle.bor_terms.proofs.Texts.{below_differs, below_trans, same_refl}
 use Rattle.bods_read.specs.declared.statement.Statement.{Statement}
-use Rattle.bor_records.specs.declared.links.node.Node.{Node}
-use Rattle.bor_records.specs.Links.Series.{stated}
 use Rattle.bor_records.proofs.OnLinks.Found.{none}
-use Rattle.bor_records.proofs.OnLinks.Growth.{Contains-take_more}
-use Rattle.bor_records.specs.Links.Values.{IsNoted}
-use Rattle.bor_register.specs.declared.memory.index.Place.{Place}
-use Rattle.bor_register.specs.Memory.Indexed.{AreNoted, IsGrown, IsIndex}
-use Rattle.bor_register.specs.Memory.Sited.{places_from}
+use Rattle.bor_register.specs.Memory.Indexed.{IsGrown, IsIndex}
 use Rattle.bor_register.specs.declared.filing.AcceptedFiling.{AcceptedFiling}
 use Rattle.bor_register.specs.declared.member.Member.{Member}
 use Rattle.bor_register.specs.Register.{AllAbove, IsOrdered, filings_of, is_enrolled, with_filings}

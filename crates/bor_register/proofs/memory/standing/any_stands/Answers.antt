@@ -1,5 +1,4 @@
 use Rattle.std.proofs.Common.{◌∙◌}
-use Rattle.std.specs.Prelude.{is_some}
 use Rattle.bor_register.proofs.OnMemory.Sighted.{any_sited}
 use Rattle.bor_register.proofs.memory.standing.any_stands.Goals as goal
 
