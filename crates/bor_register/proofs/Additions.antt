@@ -18,15 +18,15 @@ none_new : (live : List Live) → AreNew live []
 unfolding IsDistinct
 none_new live = record { settled = All-nil _; distinct = tt; free = All-nil _ }
 
-either_false : (a b : Bool) → (a || b) ≡ false → (a ≡ false) × (b ≡ false)
-either_false false b h = (refl, h)
-either_false true b h = absurd cc
+neither : (a b : Bool) → (a || b) ≡ false → (a ≡ false) × (b ≡ false)
+neither false b h = (refl, h)
+neither true b h = absurd cc
 
 -- an identifier that isn't live once the statement is: neither the live ones' nor the statement's
 free_before : (live : List Live) (due : ℤ) (s t : Statement) → has_id t.id (live ++ as_live due s ∷ []) ≡ false → (has_id t.id live ≡ false) × (is_same s.id t.id ≡ false)
 free_before live due s t h =
-    let e = either_false (has_id t.id live) (has_id t.id (as_live due s ∷ [])) (sym (has_id-append t.id live (as_live due s ∷ [])) ∙ h) in
-    (e.0, (either_false (is_same s.id t.id) false e.1).0)
+    let e = neither (has_id t.id live) (has_id t.id (as_live due s ∷ [])) (sym (has_id-append t.id live (as_live due s ∷ [])) ∙ h) in
+    (e.0, (neither (is_same s.id t.id) false e.1).0)
 
 ids_other : (id : List ℕ) (ss : List Statement) → All (λ t. is_same id t.id ≡ false) ss → AllByRecursion (λ other. is_same id other ≡ false) (map (λ s. s.id) ss)
 ids_other id [] h = tt
