@@ -1,12 +1,12 @@
 //! From the steps of a walk to the persons and links of its evidence.
 
-ghost use Rattle.std.specs.Prelude.{◌≡◌, ◌+◌, ◌++◌, ◌<◌, ◌≤◌, Bool, false, true, Contains, Some, None, OnOk, IfOk, IfSome, IfNone, length};
+ghost use Rattle.std.specs.Prelude.{◌≡◌, ◌+◌, ◌++◌, ◌∷◌, [], ◌<◌, ◌≤◌, Bool, false, true, Contains, Some, None, OnOk, IfOk, IfSome, IfNone, length};
 ghost use Rattle.std.specs.List.{slice_get};
 ghost use Rattle.bor_chains.specs.Branches.{step_down, step_link, persons_by, persons_at, links_at, IsCount, AreCounts, AreNeeded, ArePersonsFrom, AreLinksFrom};
 
 use crate::trail::Step;
 use crate::tree::{EvidenceLink, EvidencePerson};
-use bor_records::links::{Link, NodeInfo};
+use bor_records::links::{Link, NodeInfo, PersonInfo};
 use std::alloc::{AllocError, Global};
 
 // The step at a place, where it leads down.
@@ -105,6 +105,36 @@ pub(crate) struct Branches {
 }
 
 impl Branches {
+    fn push_person(
+        &mut self,
+        alloc: Global,
+        info: PersonInfo,
+        link: &Link,
+        links: u64,
+    ) -> Result<(), AllocError>
+        ensures persons { OnOk result (self.new.persons.items ≡ self.old.persons.items
+            ++ record { node = link.now.party; info = info; first = link.now; links = links } ∷ []) }
+        ensures links { self.new.links ≡ self.old.links }
+    {
+        let node = link.party.copy(alloc)?;
+        let first = link.copy(alloc)?;
+        Ok(
+            self.persons.push(EvidencePerson {
+                node,
+                info,
+                first,
+                links,
+            })?,
+        )
+    }
+
+    fn push_link(&mut self, link: EvidenceLink) -> Result<(), AllocError>
+        ensures persons { self.new.persons ≡ self.old.persons }
+        ensures links { OnOk result (self.new.links.items ≡ self.old.links.items ++ link ∷ []) }
+    {
+        Ok(self.links.push(link)?)
+    }
+
     // Adds a person, where a step leads to one.
     fn add_person(
         &mut self,
@@ -118,17 +148,27 @@ impl Branches {
         ensures links { OnOk result (self.new.links.items ≡ self.old.links.items) }
     {
         match info {
-            NodeInfo::Person(info) => {
-                let person = EvidencePerson {
-                    node: link.party.copy(alloc)?,
-                    info,
-                    first: link.copy(alloc)?,
-                    links,
-                };
-                Ok(self.persons.push(person)?)
-            }
+            NodeInfo::Person(info) => self.push_person(alloc, info, link, links),
             NodeInfo::Entity { .. } => Ok(()),
         }
+    }
+
+    // Adds a link, with the one that follows it, and a person, where it leads to one.
+    fn add_link(
+        &mut self,
+        alloc: Global,
+        info: NodeInfo,
+        link: Link,
+        next: Option<Link>,
+        links: u64,
+    ) -> Result<(), AllocError>
+        ensures persons { OnOk result
+            (self.new.persons.items ≡ self.old.persons.items ++ persons_by info link links) }
+        ensures links { OnOk result (self.new.links.items
+            ≡ self.old.links.items ++ record { link = link; next = next } ∷ []) }
+    {
+        self.add_person(alloc, info, &link, links)?;
+        self.push_link(EvidenceLink { link, next })
     }
 
     // Adds a step's link and, where it leads to one, a person. `below` are the steps before it.
@@ -145,9 +185,7 @@ impl Branches {
             ≡ self.old.links.items ++ links_at true (Some step) below.now) }
     {
         let next = link_at(alloc, below, step.below)?;
-        let Step { link, info, .. } = step;
-        self.add_person(alloc, info, &link, links)?;
-        Ok(self.links.push(EvidenceLink { link, next })?)
+        self.add_link(alloc, step.info, step.link, next, links)
     }
 
     // Adds what a step tells, where it leads down from a person. `below` are the steps before it.
@@ -164,9 +202,12 @@ impl Branches {
         ensures links { OnOk result (self.new.links.items
             ≡ self.old.links.items ++ links_at needed step below.now) }
     {
+        if !needed {
+            return Ok(());
+        }
         match step {
-            Some(step) if needed => self.add_step(alloc, below, step, links),
-            _ => Ok(()),
+            Some(step) => self.add_step(alloc, below, step, links),
+            None => Ok(()),
         }
     }
 }

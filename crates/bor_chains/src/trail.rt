@@ -1,6 +1,6 @@
 //! The walk that keeps the reason for each mark.
 
-ghost use Rattle.std.specs.Prelude.{◌≡◌, ◌+◌, ◌≤◌, ℕ, [], true, None, Some, OnOk, IfOk, length};
+ghost use Rattle.std.specs.Prelude.{◌≡◌, ◌+◌, ◌≤◌, ℕ, [], true, None, Some, ◌↔◌, Contains, IsTrue, OnOk, IfOk, length};
 ghost use Rattle.bor_records.specs.Promises.{Kept, Promised};
 ghost use Rattle.bor_records.specs.declared.links.node.Node.{Node};
 ghost use Rattle.bor_records.specs.declared.links.node.NodeInfo.TheVariants as infos;
@@ -29,10 +29,12 @@ pub(crate) struct Step {
 fn step_over(alloc: Global, crossing: &Crossing, info: &NodeInfo) -> Result<Step, AllocError>
     ensures { IfOk result (λ step. step ≡ step_by crossing.now info.now) }
 {
+    let info = info.copy(alloc)?;
+    let link = crossing.link.copy(alloc)?;
     Ok(Step {
-        link: crossing.link.copy(alloc)?,
+        link,
         below: crossing.below,
-        info: info.copy(alloc)?,
+        info,
     })
 }
 
@@ -117,6 +119,18 @@ impl Trail {
         Ok(())
     }
 
+    // Whether the entity on a crossing has a mark.
+    fn has_class(&self, alloc: Global, crossing: &Crossing) -> Result<bool, AllocError>
+        ensures { IfOk result (λ has. IsTrue has ↔ Contains self.now.marks
+            (record { node = crossing.now.link.party; mark = Middle })) }
+    {
+        let marked = Marked {
+            node: crossing.link.party.copy(alloc)?,
+            mark: Mark::Middle,
+        };
+        Ok(self.marks.has(&marked))
+    }
+
     // Gives all nodes that are the same as the entity on a crossing a mark, unless it has it.
     fn mark_class<S: LinkSource>(
         &mut self,
@@ -133,11 +147,8 @@ impl Trail {
             (IsSameAs (S.shown m) crossing.now.link.party Middle)
             (Some (step_by crossing.now (infos.Entity true))) self.old self.new)) }
     {
-        let marked = Marked {
-            node: crossing.link.party.copy(alloc)?,
-            mark: Mark::Middle,
-        };
-        if self.marks.has(&marked) {
+        let has = self.has_class(alloc, crossing)?;
+        if has {
             return Ok(());
         }
         let nodes = match source.same(&crossing.link.party) {
