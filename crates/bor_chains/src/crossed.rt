@@ -1,6 +1,6 @@
 //! The links that a walk crosses on one level.
 
-ghost use Rattle.std.specs.Prelude.{◌≡◌, ◌≤◌, ◌++◌, OnOk, IfOk, IfErr, length};
+ghost use Rattle.std.specs.Prelude.{◌≡◌, ◌≤◌, ◌++◌, ◌∷◌, [], OnOk, IfOk, IfErr, length};
 ghost use Rattle.std.specs.List.Sorted.{IsPermutation, IsSorted};
 ghost use Rattle.bor_records.specs.Promises.{Kept, Promised};
 ghost use Rattle.bor_records.specs.Links.Growth.{Grown};
@@ -21,6 +21,12 @@ pub(crate) struct Crossing {
     pub(crate) below: usize,
 }
 
+fn push(crossings: &mut Vec<Crossing>, crossing: Crossing) -> Result<(), AllocError>
+    ensures { OnOk result (crossings.new.items ≡ crossings.old.items ++ crossing ∷ []) }
+{
+    Ok(crossings.push(crossing)?)
+}
+
 // Puts a link at the end with a mark's place, where it counts at the mark.
 fn push_one(
     crossings: &mut Vec<Crossing>,
@@ -32,7 +38,7 @@ fn push_one(
         ≡ crossings.old.items ++ counted_at mark below link) }
 {
     if mark.counts(&link) {
-        Ok(crossings.push(Crossing { link, below })?)
+        push(crossings, Crossing { link, below })
     } else {
         Ok(())
     }

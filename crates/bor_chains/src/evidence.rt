@@ -11,10 +11,11 @@ ghost use Rattle.bor_chains.specs.Promises.{OnNoEntity, ReportAccounts};
 
 use crate::branches::branches_of;
 use crate::fault::ChainFault;
+use crate::report::find_entity;
 use crate::source::LinkSource;
 use crate::trail::trail_from;
 use crate::tree::{Evidence, EvidenceLink, EvidencePerson};
-use bor_records::links::{Node, NodeInfo};
+use bor_records::links::Node;
 use bor_terms::Listed;
 use std::alloc::Global;
 
@@ -47,12 +48,7 @@ pub fn evidence_of<S: LinkSource>(
     ensures no_entity { Promised S.meaning source.old source.new (λ m.
         IfErr result (λ f. OnNoEntity f (IsEntity (S.shown m) target.now → ⊥))) }
 {
-    match source.node(target) {
-        Err(fault) => return Err(ChainFault::Source(fault)),
-        Ok(None) => return Err(ChainFault::NoEntity),
-        Ok(Some(NodeInfo::Person(_))) => return Err(ChainFault::NoEntity),
-        Ok(Some(NodeInfo::Entity { .. })) => {}
-    }
+    find_entity(source, target)?;
     let trail = trail_from(alloc, source, target)?;
     let found = branches_of(alloc, trail.steps)?;
     let persons = each_person_once(persons_in_order(found.persons));

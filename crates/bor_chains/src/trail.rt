@@ -6,6 +6,7 @@ ghost use Rattle.bor_records.specs.declared.links.node.Node.{Node};
 ghost use Rattle.bor_records.specs.declared.links.node.NodeInfo.TheVariants as infos;
 ghost use Rattle.bor_chains.specs.declared.marks.Mark.TheVariants.{Middle, Holder};
 ghost use Rattle.bor_chains.specs.Promises.{WalkAccounts};
+ghost use Rattle.bor_records.specs.Links.Shown.{info_of};
 ghost use Rattle.bor_chains.specs.Marks.{IsOneOf, IsSameAs};
 ghost use Rattle.bor_chains.specs.Trail.{step_by, IsFilled, GivesMarks, GivesUnlessThere, AreBeside, AreWhole, Follows, FollowsTo, IsAtLevel, IsAll};
 
@@ -160,6 +161,36 @@ impl Trail {
         Ok(())
     }
 
+    // Goes on over one crossing, whose link's party is this.
+    fn go_to<S: LinkSource>(
+        &mut self,
+        alloc: Global,
+        source: &mut S,
+        crossing: &Crossing,
+        info: &NodeInfo,
+    ) -> Result<(), WalkFault<S::Fault>>
+        ensures longer { OnOk result (length self.old.marks ≤ length self.new.marks) }
+        ensures same_reference { S.lender source.new ≡ S.lender source.old }
+        ensures kept { Kept S.meaning source.old source.new }
+        ensures accounted { WalkAccounts S.meaning source.old source.new result }
+        ensures walked { OnOk result (Promised S.meaning source.old source.new (λ m.
+            Some info.now ≡ info_of (S.shown m) crossing.now.link.party
+            → AreWhole (S.shown m) self.old.marks → AreWhole (S.shown m) self.new.marks
+            × Follows (S.shown m) crossing.now self.old self.new)) }
+    {
+        match info {
+            NodeInfo::Person(_) => {
+                self.mark_person(alloc, crossing, info)?;
+                Ok(())
+            }
+            NodeInfo::Entity { legal: false } => Ok(()),
+            NodeInfo::Entity { legal: true } => {
+                self.mark_class(alloc, source, crossing)?;
+                Ok(())
+            }
+        }
+    }
+
     // Goes on over one crossing.
     fn follow<S: LinkSource>(
         &mut self,
@@ -178,13 +209,8 @@ impl Trail {
         match source.node(&crossing.link.party) {
             Err(fault) => Err(WalkFault::Source(fault)),
             Ok(None) => Ok(()),
-            Ok(Some(NodeInfo::Person(info))) => {
-                self.mark_person(alloc, crossing, &NodeInfo::Person(info))?;
-                Ok(())
-            }
-            Ok(Some(NodeInfo::Entity { legal: false })) => Ok(()),
-            Ok(Some(NodeInfo::Entity { legal: true })) => {
-                self.mark_class(alloc, source, crossing)?;
+            Ok(Some(info)) => {
+                self.go_to(alloc, source, crossing, &info)?;
                 Ok(())
             }
         }

@@ -4,7 +4,7 @@ use Rattle.bor_chains.proofs.evidence.evidence_of.Goals as goal
 pub returns-clause-evidenced : goal.returns-clause-evidenced
 returns-clause-evidenced g c = λ m e k. let s = g.S.LinkSource.shown m in
     let target = c.args.target.now in
-    let then = (c.node.ensures.reads.kept.same (c.trail_from.ensures.kept.began k) m).0 e in
+    let then = (c.find_entity.ensures.kept.same (c.trail_from.ensures.kept.began k) m).0 e in
     let all = c.in_ok-trail.ensures.walked m then k in
     let found = c.in_ok-found.found in
     let persons = c.each_person_once-persons.result.items in
