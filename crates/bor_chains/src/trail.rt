@@ -39,6 +39,17 @@ fn step_over(alloc: Global, crossing: &Crossing, info: &NodeInfo) -> Result<Step
     })
 }
 
+// The party of a crossing's link with this mark.
+fn party_marked(alloc: Global, crossing: &Crossing, mark: Mark) -> Result<Marked, AllocError>
+    ensures { IfOk result (λ marked.
+        marked ≡ record { node = crossing.now.link.party; mark = mark }) }
+{
+    Ok(Marked {
+        node: crossing.link.party.copy(alloc)?,
+        mark,
+    })
+}
+
 // Puts the step over a crossing at the end until there are so many.
 fn fill(
     alloc: Global,
@@ -108,10 +119,7 @@ impl Trail {
             (λ n. n ≡ record { node = crossing.now.link.party; mark = Holder })
             (Some (step_by crossing.now info.now)) self.old self.new) }
     {
-        let marked = Marked {
-            node: crossing.link.party.copy(alloc)?,
-            mark: Mark::Holder,
-        };
+        let marked = party_marked(alloc, crossing, Mark::Holder)?;
         let is_new = self.marks.add(marked)?;
         if !is_new {
             return Ok(());
@@ -125,10 +133,7 @@ impl Trail {
         ensures { IfOk result (λ has. IsTrue has ↔ Contains self.now.marks
             (record { node = crossing.now.link.party; mark = Middle })) }
     {
-        let marked = Marked {
-            node: crossing.link.party.copy(alloc)?,
-            mark: Mark::Middle,
-        };
+        let marked = party_marked(alloc, crossing, Mark::Middle)?;
         Ok(self.marks.has(&marked))
     }
 

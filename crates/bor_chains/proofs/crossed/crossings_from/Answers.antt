@@ -28,3 +28,6 @@ loop-place-preserved g c =
 
 pub returns-clause-crossed : goal.returns-clause-crossed
 returns-clause-crossed g c = λ m e k. let end : c.loop-place.place ≡ length c.args.marks.now = omega arith in rw end at (c.loop-place.invariant.crossed m e k)
+
+pub returns-in_err-cross_one-clause-kept : goal.returns-in_err-cross_one-clause-kept
+returns-in_err-cross_one-clause-kept g c = kept_then _ _ _ _ c.loop-place.invariant.kept c.cross_one.ensures.kept
