@@ -34,3 +34,6 @@ pub returns-clause-walked : goal.returns-clause-walked
 returns-clause-walked g c = λ m e k.
     let at = c.loop-start.invariant.walked m e k in
     level_all (g.S.LinkSource.shown m) c.args.target.now c.loop-start.start at.0 c.loop-start.trail (omega arith) at.1
+
+pub returns-in_err-go_on-clause-kept : goal.returns-in_err-go_on-clause-kept
+returns-in_err-go_on-clause-kept g c = kept_then _ _ _ _ c.loop-start.invariant.kept c.go_on.ensures.kept

@@ -40,3 +40,6 @@ returns-clause-walked g c = λ m e k beside whole.
     let all = YieldsList-end (YieldsList-from_vec c.args.crossings.items gives.0 (gives.1 ∙ c.args.crossings.ok.0)) c.loop-crossing.yielded c.loop-crossing.crossing-iterator c.loop-crossing.yielded_by c.next.result c.next.new.self c.in-None.is c.next.ensures.steps in
     let r = c.loop-crossing.invariant.walked m e k beside whole in
     (r.0, rw (sym (map-id c.loop-crossing.yielded) ∙ all.0) at r.1)
+
+pub returns-in_err-followed-clause-kept : goal.returns-in_err-followed-clause-kept
+returns-in_err-followed-clause-kept g c = kept_then _ _ _ _ c.loop-crossing.invariant.kept c.follow-followed.ensures.kept

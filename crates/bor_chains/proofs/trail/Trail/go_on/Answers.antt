@@ -1,3 +1,4 @@
+use Rattle.bor_records.proofs.KeptLaws.{kept_then}
 use Rattle.std.proofs.Common.{length}
 use Rattle.std.proofs.lemmas.List.Sorted.{Contains-permutation, IsPermutation-sym}
 use Rattle.bor_chains.specs.Crossings.{AreCrossings}
@@ -13,3 +14,9 @@ returns-clause-walked g c = λ m e k entity level at.
     let then = (c.crossings_from.ensures.kept.same clean m).0 e in
     let goes = c.in_ok-follow_all.ensures.walked m then k at.beside at.whole in
     level_step s entity c.args.start level c.args.self.now c.follow_all.new.self c.in_ok-crossings.crossings.items at all c.in_ok-crossings.ensures.sorted goes.0 goes.1
+
+pub returns-in_err-follow_all-clause-kept : goal.returns-in_err-follow_all-clause-kept
+returns-in_err-follow_all-clause-kept g c = kept_then _ _ _ _ c.crossings_from.ensures.kept c.follow_all.ensures.kept
+
+pub returns-clause-kept : goal.returns-clause-kept
+returns-clause-kept g c = kept_then _ _ _ _ c.crossings_from.ensures.kept c.follow_all.ensures.kept

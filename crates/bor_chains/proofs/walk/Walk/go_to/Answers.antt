@@ -1,4 +1,5 @@
-use Rattle.std.proofs.Common.{◌≡◌, ◌∙◌, ap, refl, sym, subst, Some, None, true, false}
+use Rattle.bor_records.proofs.KeptLaws.{kept_then}
+use Rattle.std.proofs.Common.{◌≡◌, ◌∙◌, ap, subst, Some, None, true, false}
 use Rattle.bor_records.specs.declared.links.node.Node.{Node}
 use Rattle.bor_records.specs.declared.links.node.NodeInfo.TheVariants.{Entity, Person}
 use Rattle.bor_records.specs.Links.Growth.{Grown}
@@ -40,3 +41,9 @@ returns-in-Ok-Some-Entity-false-clause-walked g c = λ m e k mark link t p.
     let told = c.in-Ok-Some-Entity-false.ensures.reads.answer m e k in
     let at : Some (Entity false) ≡ info_of s link.party = cc (told, ap (info_of s) p) in
     follow_nothing s mark link c.args.count c.args.self.now (λ h. let no : Some (Entity false) ≡ Some (Entity true) = at ∙ h in cc) (λ info h. let no : Some (Entity false) ≡ Some (Person info) = at ∙ h in cc)
+
+pub returns-in_ok-mark_class-in-Ok-Some-Entity-true-clause-kept : goal.returns-in_ok-mark_class-in-Ok-Some-Entity-true-clause-kept
+returns-in_ok-mark_class-in-Ok-Some-Entity-true-clause-kept g c = kept_then _ _ _ _ c.node.ensures.reads.kept c.mark_class.ensures.kept
+
+pub returns-in_err-mark_class-in-Ok-Some-Entity-true-clause-kept : goal.returns-in_err-mark_class-in-Ok-Some-Entity-true-clause-kept
+returns-in_err-mark_class-in-Ok-Some-Entity-true-clause-kept g c = kept_then _ _ _ _ c.node.ensures.reads.kept c.mark_class.ensures.kept
