@@ -113,19 +113,19 @@ impl Branches {
         links: u64,
     ) -> Result<(), AllocError>
         ensures persons { OnOk result (self.new.persons.items ≡ self.old.persons.items
-            ++ record { node = link.now.party; info = info; first = link.now; links = links } ∷ []) }
+            ++ record { node = link.now.party; info = info; first = link.now; links = links }
+            ∷ []) }
         ensures links { self.new.links ≡ self.old.links }
     {
         let node = link.party.copy(alloc)?;
         let first = link.copy(alloc)?;
-        Ok(
-            self.persons.push(EvidencePerson {
-                node,
-                info,
-                first,
-                links,
-            })?,
-        )
+        let person = EvidencePerson {
+            node,
+            info,
+            first,
+            links,
+        };
+        Ok(self.persons.push(person)?)
     }
 
     fn push_link(&mut self, link: EvidenceLink) -> Result<(), AllocError>
