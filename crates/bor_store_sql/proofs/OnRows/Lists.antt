@@ -1,7 +1,10 @@
 -- Rows that are read one by one, and split.
 use Rattle.std.specs.List.{AllByRecursion}
-use Rattle.std.proofs.Common.{◌≡◌, ℕ, ◌+◌, ◌<◌, Bool, true, false, List, [], ◌∷◌, ◌++◌, length, drop, slice_index_or, map, append-nil, append_assoc, add-one, refl, sym, ap, ◌∙◌, zero, suc, get_or, true≢false, take, arith, drop-cons, All, slice_get, Some, rules}
+use Rattle.std.proofs.Common.{◌≡◌, ℕ, ◌+◌, ◌<◌, Bool, true, false, List, [], ◌∷◌, ◌++◌, length, drop, slice_index_or, map, append-nil, append_assoc, add-one, refl, sym, ap, ◌∙◌, zero, suc, get_or, true≢false, take, arith, drop-cons, All, slice_get, Some, Result, IsErrAnd, rules}
 use Rattle.std.proofs.lemmas.List.Elements.{All-head, All-tail}
+use Rattle.bor_store_sql.specs.declared.rows.fault.RowFault.{RowFault}
+use Rattle.bor_store_sql.specs.declared.rows.fault.RowFault.TheVariants.{Memory}
+use Rattle.bor_store_sql.specs.Rows.Reading.{IsRead}
 
 -- where there are no rows there are no values
 pub no_values : {X R : Type 0} (columns : X → R) (xs : List X) → map columns xs ≡ [] → xs ≡ []
@@ -45,6 +48,10 @@ module _ {X R : Type 0} (columns : X → R) (is_formed : X → Type 0) where
 
 pub next_row : {R : Type 0} (rows : List R) (i : ℕ) (row d : R) → i < length rows → slice_index_or rows i d ≡ row → drop i rows ≡ row ∷ drop (i + 1) rows
 next_row rows i row d low is = drop-cons rows i d low ∙ rw (is, add-one) refl
+
+-- where memory is wanting for a part of a value, it is for the value
+pub not_read : {X : Type 0} {fault : RowFault} (result : Result X RowFault) (x : X) → IsErrAnd result (λ e. e ≡ fault) → fault ≡ Memory → IsRead result x
+not_read result x fails wanting = search rules
 
 -- the first row is that of a value
 pub first_read : {X R : Type 0} (columns : X → R) (is_formed : X → Type 0) (rows : List R) (xs : List X) (row : R) (Q : Type 0) → slice_get rows 0 ≡ Some row → rows ≡ map columns xs → All is_formed xs

@@ -6,6 +6,7 @@ ghost use Rattle.bor_store_sql.specs.Rows.Placed.{bare, interest_rows, identifie
 
 use crate::rows::split::{identifiers, interests, split_identifiers, split_interests};
 use crate::rows::typed::{IdentifierRow, InterestRow, Placed, StatementRow};
+use bods_read::{Identifier, Interest};
 use std::alloc::{AllocError, Global};
 
 /// The statements whose rows these are, all sorted by place.
@@ -44,7 +45,20 @@ fn with_rows(
         ≡ with_lists row (map (λ r. r.interest) own_interests.now)
         (map (λ r. r.identifier) own_identifiers.now)) }
 {
-    let interests = interests(alloc, own_interests)?;
-    let identifiers = identifiers(alloc, own_identifiers)?;
+    let (interests, identifiers) = lists(alloc, own_interests, own_identifiers)?;
     Ok(row.with(interests, identifiers))
+}
+
+// The interests and the identifiers of these rows.
+fn lists(
+    alloc: Global,
+    own_interests: &[InterestRow],
+    own_identifiers: &[IdentifierRow],
+) -> Result<(Vec<Interest>, Vec<Identifier>), AllocError>
+    ensures { IfOk result (λ lists.
+        (lists.0.items ≡ map (λ r. r.interest) own_interests.now)
+        × (lists.1.items ≡ map (λ r. r.identifier) own_identifiers.now)) }
+{
+    let interests = interests(alloc, own_interests)?;
+    Ok((interests, identifiers(alloc, own_identifiers)?))
 }

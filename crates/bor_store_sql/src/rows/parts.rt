@@ -28,9 +28,9 @@ fn entity(alloc: Global, row: &Row) -> Result<Part, RowFault>
         (kind_word p ≡ type_word types.Entity) × HasFour row.now 9 (part_columns p)
         × IsFormedPart p) }
 {
+    are_null(value_at(row, 11), value_at(row, 12))?;
     let kind: EntityKind = by_word(value_at(row, 9))?;
     let name = text_or_null(alloc, value_at(row, 10))?;
-    are_null(value_at(row, 11), value_at(row, 12))?;
     Ok(Part::Entity { kind, name })
 }
 
@@ -43,9 +43,9 @@ fn person(alloc: Global, row: &Row) -> Result<Part, RowFault>
         (kind_word p ≡ type_word types.Person) × HasFour row.now 9 (part_columns p)
         × IsFormedPart p) }
 {
+    are_null(value_at(row, 11), value_at(row, 12))?;
     let kind: PersonKind = by_word(value_at(row, 9))?;
     let name = text_or_null(alloc, value_at(row, 10))?;
-    are_null(value_at(row, 11), value_at(row, 12))?;
     Ok(Part::Person { kind, name })
 }
 

@@ -3,7 +3,7 @@
 ghost use Rattle.std.specs.Prelude.{◌≡◌, pos, Ok, List, map, All, MatchResult, Option, Some, option_map, IfOk, IfSome};
 ghost use Rattle.sqlite.specs.declared.types.Value.TheVariants.{Int, Text};
 ghost use Rattle.sqlite_value.specs.Order.{column};
-ghost use Rattle.bods_read.specs.Forms.{IsShare};
+ghost use Rattle.bods_read.specs.Forms.{IsFormedIdentifier, IsShare};
 ghost use Rattle.bods_read.specs.Words.{status_word};
 ghost use Rattle.bor_terms.specs.Span.{Range};
 ghost use Rattle.bor_store_sql.specs.declared.rows.fault.RowFault.TheVariants.{Memory};
@@ -18,7 +18,8 @@ use crate::rows::typed::{
     AgentRow, FilingRow, IdentifierRow, InterestLine, PeriodRow, RegisterRow, StatementRow,
 };
 use crate::rows::values::{
-    blob, day, day_or_null, flag, has_columns, is_number, number, percent, text, value_at,
+    blob, day_at, day_or_null, flag_at, has_columns, is_number, number_at, percent, text_at,
+    value_at,
 };
 use crate::rows::words::by_word;
 use crate::texts::changes::VERSION;
@@ -54,12 +55,11 @@ impl TableRow for AgentRow {
 
     ghost is_formed = { IsFormedAgentRow };
 
-    #[tactic(auto, using(crate::proofs::OnRows::Utf8::name_utf8, crate::proofs::OnRows::Utf8::token_utf8))]
     fn read(alloc: Global, row: &Row) -> Result<AgentRow, RowFault> {
         has_columns(row, 2)?;
         Ok(AgentRow {
-            name: text(alloc, value_at(row, 0))?,
-            token: text(alloc, value_at(row, 1))?,
+            name: text_at(alloc, row, 0)?,
+            token: text_at(alloc, row, 1)?,
         })
     }
 }
@@ -72,14 +72,13 @@ impl TableRow for RegisterRow {
 
     ghost is_formed = { IsFormedRegisterRow };
 
-    #[tactic(auto, using(crate::proofs::OnRows::Utf8::token_utf8))]
     fn read(alloc: Global, row: &Row) -> Result<RegisterRow, RowFault> {
         has_columns(row, 4)?;
         is_number(value_at(row, 0), 1)?;
         is_number(value_at(row, 1), VERSION)?;
         Ok(RegisterRow {
-            day: day(value_at(row, 2))?,
-            registrar: text(alloc, value_at(row, 3))?,
+            day: day_at(row, 2)?,
+            registrar: text_at(alloc, row, 3)?,
         })
     }
 }
@@ -93,15 +92,14 @@ impl TableRow for FilingRow {
 
     ghost is_formed = { IsFormedFilingRow };
 
-    #[tactic(auto, using(crate::proofs::OnRows::Utf8::name_utf8, crate::proofs::OnRows::Utf8::key_utf8))]
     fn read(alloc: Global, row: &Row) -> Result<FilingRow, RowFault> {
         has_columns(row, 5)?;
         Ok(FilingRow {
-            agent: text(alloc, value_at(row, 0))?,
-            number: number(value_at(row, 1))?,
-            key: text(alloc, value_at(row, 2))?,
-            due: day(value_at(row, 3))?,
-            withdrawn: flag(value_at(row, 4))?,
+            number: number_at(row, 1)?,
+            due: day_at(row, 3)?,
+            withdrawn: flag_at(row, 4)?,
+            agent: text_at(alloc, row, 0)?,
+            key: text_at(alloc, row, 2)?,
         })
     }
 }
@@ -118,9 +116,9 @@ impl TableRow for Filing {
     fn read(alloc: Global, row: &Row) -> Result<Filing, RowFault> {
         has_columns(row, 4)?;
         Ok(Filing {
-            number: number(value_at(row, 0))?,
-            due: day(value_at(row, 1))?,
-            withdrawn: flag(value_at(row, 2))?,
+            number: number_at(row, 0)?,
+            due: day_at(row, 1)?,
+            withdrawn: flag_at(row, 2)?,
             bytes: blob(alloc, value_at(row, 3))?,
         })
     }
@@ -135,22 +133,17 @@ impl TableRow for IdentifierRow {
 
     ghost is_formed = { IsFormedIdentifierRow };
 
-    #[tactic(auto, using(crate::proofs::OnRows::Utf8::free_utf8))]
     fn read(alloc: Global, row: &Row) -> Result<IdentifierRow, RowFault> {
         has_columns(row, 6)?;
         Ok(IdentifierRow {
+            item: number_at(row, 3)?,
             at: place_at(alloc, row)?,
-            item: number(value_at(row, 3))?,
-            identifier: Identifier {
-                scheme: text(alloc, value_at(row, 4))?,
-                id: text(alloc, value_at(row, 5))?,
-            },
+            identifier: identifier_of(alloc, row)?,
         })
     }
 }
 
 // Where a statement stands, by the first three columns.
-#[tactic(auto, using(crate::proofs::OnRows::Utf8::name_utf8))]
 fn place_at(alloc: Global, row: &Row) -> Result<At, RowFault>
     ensures reads { (at : At) → column row.now 0 ≡ Text at.agent
         → column row.now 1 ≡ Int (pos at.filing) → column row.now 2 ≡ Int (pos at.place)
@@ -160,9 +153,23 @@ fn place_at(alloc: Global, row: &Row) -> Result<At, RowFault>
         × (column row.now 2 ≡ Int (pos at.place)) × IsFormedAt at) }
 {
     Ok(At {
-        agent: text(alloc, value_at(row, 0))?,
-        filing: number(value_at(row, 1))?,
-        place: number(value_at(row, 2))?,
+        filing: number_at(row, 1)?,
+        place: number_at(row, 2)?,
+        agent: text_at(alloc, row, 0)?,
+    })
+}
+
+// An identifier, by its last two columns.
+fn identifier_of(alloc: Global, row: &Row) -> Result<Identifier, RowFault>
+    ensures reads { (i : Identifier) → column row.now 4 ≡ Text i.scheme
+        → column row.now 5 ≡ Text i.id → IsFormedIdentifier i → IsRead result i }
+    ensures exact { IfOk result (λ i.
+        (column row.now 4 ≡ Text i.scheme) × (column row.now 5 ≡ Text i.id)
+        × IsFormedIdentifier i) }
+{
+    Ok(Identifier {
+        scheme: text_at(alloc, row, 4)?,
+        id: text_at(alloc, row, 5)?,
     })
 }
 
@@ -174,9 +181,9 @@ fn span_of(row: &Row) -> Result<Span, RowFault>
     ensures exact { IfOk result (λ s. HasFour row.now 6 (share_columns (Some s)) × IsShare s) }
 {
     let low = percent(value_at(row, 6))?;
-    let low_open = flag(value_at(row, 7))?;
+    let low_open = flag_at(row, 7)?;
     let high = percent(value_at(row, 8))?;
-    let high_open = flag(value_at(row, 9))?;
+    let high_open = flag_at(row, 9)?;
     match Span::new(low, low_open, high, high_open) {
         Some(span) => Ok(span),
         None => Err(RowFault::Damaged),
@@ -212,11 +219,11 @@ impl TableRow for InterestLine {
     fn read(alloc: Global, row: &Row) -> Result<InterestLine, RowFault> {
         has_columns(row, 10)?;
         Ok(InterestLine {
-            at: place_at(alloc, row)?,
-            item: number(value_at(row, 3))?,
+            item: number_at(row, 3)?,
             kind: by_word(value_at(row, 4))?,
             directness: by_word(value_at(row, 5))?,
             share: share_of(row)?,
+            at: place_at(alloc, row)?,
         })
     }
 }
@@ -233,10 +240,10 @@ impl TableRow for PeriodRow {
     fn read(alloc: Global, row: &Row) -> Result<PeriodRow, RowFault> {
         has_columns(row, 6)?;
         Ok(PeriodRow {
-            at: place_at(alloc, row)?,
-            item: number(value_at(row, 3))?,
+            item: number_at(row, 3)?,
             starts: day_or_null(value_at(row, 4))?,
             ends: day_or_null(value_at(row, 5))?,
+            at: place_at(alloc, row)?,
         })
     }
 }
@@ -250,16 +257,15 @@ impl TableRow for StatementRow {
 
     ghost is_formed = { IsFormedStatementRow };
 
-    #[tactic(auto, using(crate::proofs::OnRows::Utf8::ident_utf8))]
     fn read(alloc: Global, row: &Row) -> Result<StatementRow, RowFault> {
         has_columns(row, 13)?;
         Ok(StatementRow {
-            at: place_at(alloc, row)?,
-            id: text(alloc, value_at(row, 3))?,
-            day: day(value_at(row, 4))?,
-            declaration: text(alloc, value_at(row, 5))?,
-            rec: text(alloc, value_at(row, 6))?,
+            day: day_at(row, 4)?,
             status: status_of(row)?,
+            id: text_at(alloc, row, 3)?,
+            declaration: text_at(alloc, row, 5)?,
+            rec: text_at(alloc, row, 6)?,
+            at: place_at(alloc, row)?,
             part: part_of(alloc, row)?,
         })
     }

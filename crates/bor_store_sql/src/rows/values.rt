@@ -139,6 +139,40 @@ pub(crate) fn day_or_null(value: ValueRef<'_>) -> Result<Option<Day>, RowFault>
     }
 }
 
+/// The text of the form in a column.
+pub(crate) fn text_at<F: Form>(alloc: Global, row: &Row, at: usize) -> Result<Text<F>, RowFault>
+    ensures reads { (t : List ℕ) → column row.now at ≡ sql.Text t → IsUtf8 t → F.is_form t ≡ true
+        → IsRead result t }
+    ensures exact { IfOk result (λ t.
+        (column row.now at ≡ sql.Text t) × (is_utf8 t ≡ true) × (F.is_form t ≡ true)) }
+{
+    text(alloc, value_at(row, at))
+}
+
+/// The number of 32 bits in a column.
+pub(crate) fn number_at(row: &Row, at: usize) -> Result<u32, RowFault>
+    ensures reads { (n : ℕ) → column row.now at ≡ sql.Int (pos n) → n < 2 ^ 32 → result ≡ Ok n }
+    ensures exact { IfOk result (λ n. (column row.now at ≡ sql.Int (pos n)) × (n < 2 ^ 32)) }
+{
+    number(value_at(row, at))
+}
+
+/// The day in a column.
+pub(crate) fn day_at(row: &Row, at: usize) -> Result<Day, RowFault>
+    ensures reads { (z : ℤ) → column row.now at ≡ sql.Int z → IsDay z → result ≡ Ok z }
+    ensures exact { IfOk result (λ z. (column row.now at ≡ sql.Int z) × IsDay z) }
+{
+    day(value_at(row, at))
+}
+
+/// The truth value in a column.
+pub(crate) fn flag_at(row: &Row, at: usize) -> Result<bool, RowFault>
+    ensures reads { (b : Bool) → column row.now at ≡ truth b → result ≡ Ok b }
+    ensures exact { IfOk result (λ b. column row.now at ≡ truth b) }
+{
+    flag(value_at(row, at))
+}
+
 /// Whether it is this number; every other value is `Damaged`.
 pub(crate) fn is_number(value: ValueRef<'_>, number: i64) -> Result<(), RowFault>
     ensures { MatchResult result (λ _. owned value.entry ≡ sql.Int number) (λ _.

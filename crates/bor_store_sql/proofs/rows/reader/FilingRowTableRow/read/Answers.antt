@@ -1,0 +1,11 @@
+use Rattle.std.proofs.Common.{ap}
+use Rattle.sqlite.specs.Order.{column}
+use Rattle.bor_store_sql.proofs.OnRows.Lists.{not_read}
+use Rattle.bor_store_sql.proofs.OnRows.Utf8.{name_utf8, key_utf8}
+use Rattle.bor_store_sql.proofs.rows.reader.FilingRowTableRow.read.Goals as goal
+
+pub returns-in_err-text_at-clause-reads : goal.returns-in_err-text_at-clause-reads
+returns-in_err-text_at-clause-reads c x is formed = not_read _ x c.from_residual-in_err-text_at.ensures.1 (c.in_err-text_at.ensures.reads x.agent (ap (λ r. column r 0) is) (name_utf8 x.agent formed.agent) formed.agent)
+
+pub returns-in_err-text_at-2-clause-reads : goal.returns-in_err-text_at-2-clause-reads
+returns-in_err-text_at-2-clause-reads c x is formed = not_read _ x c.from_residual-in_err-text_at-2.ensures.1 (c.in_err-text_at-2.ensures.reads x.key (ap (λ r. column r 2) is) (key_utf8 x.key formed.key) formed.key)
