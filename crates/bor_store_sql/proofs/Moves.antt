@@ -53,6 +53,10 @@ both_move First Then All old mid new result chain one two = search rules
 pub fails : {Then All : Database → Database → Type 0} {old new : State} {done result : Result (Unit {0}) Error} → IsErr result → MovesTo Then old new done → MovesTo All old new result
 fails {All = All} {old} {new} {result = result} err one = search rules
 
+-- one that went well, and another that failed
+pub then_fails : {First Then All : Database → Database → Type 0} {old mid new : State} {done result : Result (Unit {0}) Error} → IsErr result → MovesTo First old mid (Ok (tt {0})) → MovesTo Then mid new done → MovesTo All old new result
+then_fails {First} {All = All} {old} {mid} {new} {result = result} err one two = both_move First (λ was is. All old.now is) All old mid new result (λ first all. all) one (fails err two)
+
 -- what was made, in other words
 pub in_other_words : (Makes All : Database → Database → Type 0) (old new : State) (result : Result (Unit {0}) Error) → (Makes old.now new.now → All old.now new.now) → MovesTo Makes old new result → MovesTo All old new result
 in_other_words Makes All old new result turn one = search rules

@@ -1,5 +1,5 @@
 -- Texts of a form are UTF-8.
-use Rattle.std.proofs.Common.{◌≡◌, ℕ, ◌<◌, ◌&&◌, Bool, List, [], ◌∷◌, true, arith, All}
+use Rattle.std.proofs.Common.{◌≡◌, ℕ, ◌<◌, ◌&&◌, Bool, List, [], ◌∷◌, true, arith, All, Option, Some, None, IfSome, refl}
 use Rattle.std.specs.List.{list_all}
 use Rattle.std.specs.Str.{IsUtf8, is_utf8}
 use Rattle.std.proofs.lemmas.Bool.{and_parts}
@@ -7,6 +7,7 @@ use Rattle.std.proofs.lemmas.Bool.Decides.{nat_tests}
 use Rattle.std.proofs.lemmas.List.Elements.{All-nil, All-cons}
 use Rattle.std.proofs.lemmas.Str.{IsUtf8-from_ascii, IsUtf8-from_is_utf8}
 use Rattle.std.proofs.lemmas.Str.Ascii.{IsAscii-from_all}
+use Rattle.bods_read.specs.Forms.{IsFreeText, IsIdent}
 use Rattle.bor_terms.specs.Texts.{is_agent_name, is_lodge_key, is_token, is_ident, is_name_byte, is_key_byte, is_visible_byte, is_printed, has_length}
 
 all_below : (p : ℕ → Bool) → ((b : ℕ) → p b ≡ true → b < 128) → (t : List ℕ) → list_all p t ≡ true → All (λ b. b < 128) t
@@ -43,3 +44,13 @@ ident_utf8 t h = IsUtf8-from_is_utf8 t (and_parts (has_length 1 255 t && list_al
 
 pub free_utf8 : (t : List ℕ) → is_utf8 t ≡ true → IsUtf8 t
 free_utf8 t h = IsUtf8-from_is_utf8 t h
+
+-- ---- texts that may be missing
+
+pub ident_if_any : (o : Option (List ℕ)) → IfSome o IsIdent → IfSome o (λ t. IsUtf8 t × (is_ident t ≡ true))
+ident_if_any None h = h
+ident_if_any (Some t) h = (ident_utf8 t h, h)
+
+pub free_if_any : (o : Option (List ℕ)) → IfSome o IsFreeText → IfSome o (λ t. IsUtf8 t × (true ≡ true))
+free_if_any None h = h
+free_if_any (Some t) h = (free_utf8 t h, refl)

@@ -13,13 +13,12 @@ ghost use Rattle.bor_store_sql.specs.Rows.RowForms.{IsFormedPart};
 
 use crate::rows::fault::RowFault;
 use crate::rows::typed::Part;
-use crate::rows::values::{are_null, text_or_null, value_at};
-use crate::rows::words::by_word;
+use crate::rows::values::{are_null, text_or_null_at, value_at};
+use crate::rows::words::by_word_at;
 use bods_read::{EntityKind, PersonKind, RecordType};
 use sqlite::Row;
 use std::alloc::Global;
 
-#[tactic(auto, using(crate::proofs::OnRows::Utf8::free_utf8))]
 fn entity(alloc: Global, row: &Row) -> Result<Part, RowFault>
     ensures reads { (kind : EntityKind) (name : Option (List ℕ))
         → HasFour row.now 9 (part_columns (part.Entity kind name)) → IfSome name IsFreeText
@@ -29,12 +28,11 @@ fn entity(alloc: Global, row: &Row) -> Result<Part, RowFault>
         × IsFormedPart p) }
 {
     are_null(value_at(row, 11), value_at(row, 12))?;
-    let kind: EntityKind = by_word(value_at(row, 9))?;
-    let name = text_or_null(alloc, value_at(row, 10))?;
+    let kind: EntityKind = by_word_at(row, 9)?;
+    let name = text_or_null_at(alloc, row, 10)?;
     Ok(Part::Entity { kind, name })
 }
 
-#[tactic(auto, using(crate::proofs::OnRows::Utf8::free_utf8))]
 fn person(alloc: Global, row: &Row) -> Result<Part, RowFault>
     ensures reads { (kind : PersonKind) (name : Option (List ℕ))
         → HasFour row.now 9 (part_columns (part.Person kind name)) → IfSome name IsFreeText
@@ -44,12 +42,11 @@ fn person(alloc: Global, row: &Row) -> Result<Part, RowFault>
         × IsFormedPart p) }
 {
     are_null(value_at(row, 11), value_at(row, 12))?;
-    let kind: PersonKind = by_word(value_at(row, 9))?;
-    let name = text_or_null(alloc, value_at(row, 10))?;
+    let kind: PersonKind = by_word_at(row, 9)?;
+    let name = text_or_null_at(alloc, row, 10)?;
     Ok(Part::Person { kind, name })
 }
 
-#[tactic(auto, using(crate::proofs::OnRows::Utf8::ident_utf8))]
 fn relationship(alloc: Global, row: &Row) -> Result<Part, RowFault>
     ensures reads { (subject party : Option (List ℕ))
         → HasFour row.now 9 (part_columns (part.Relationship subject party))
@@ -60,8 +57,8 @@ fn relationship(alloc: Global, row: &Row) -> Result<Part, RowFault>
         × IsFormedPart p) }
 {
     are_null(value_at(row, 9), value_at(row, 10))?;
-    let subject = text_or_null(alloc, value_at(row, 11))?;
-    let party = text_or_null(alloc, value_at(row, 12))?;
+    let subject = text_or_null_at(alloc, row, 11)?;
+    let party = text_or_null_at(alloc, row, 12)?;
     Ok(Part::Relationship { subject, party })
 }
 
@@ -73,7 +70,7 @@ pub(crate) fn part_of(alloc: Global, row: &Row) -> Result<Part, RowFault>
         (column row.now 7 ≡ Text (kind_word p)) × HasFour row.now 9 (part_columns p)
         × IsFormedPart p) }
 {
-    let kind: RecordType = by_word(value_at(row, 7))?;
+    let kind: RecordType = by_word_at(row, 7)?;
     match kind {
         RecordType::Entity => entity(alloc, row),
         RecordType::Person => person(alloc, row),

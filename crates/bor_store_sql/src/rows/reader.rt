@@ -21,7 +21,7 @@ use crate::rows::values::{
     blob, day_at, day_or_null, flag_at, has_columns, is_number, number_at, percent, text_at,
     value_at,
 };
-use crate::rows::words::by_word;
+use crate::rows::words::{by_word, by_word_at};
 use crate::texts::changes::VERSION;
 use bods_read::{Identifier, Status};
 use bor_register::Filing;
@@ -184,10 +184,7 @@ fn span_of(row: &Row) -> Result<Span, RowFault>
     let low_open = flag_at(row, 7)?;
     let high = percent(value_at(row, 8))?;
     let high_open = flag_at(row, 9)?;
-    match Span::new(low, low_open, high, high_open) {
-        Some(span) => Ok(span),
-        None => Err(RowFault::Damaged),
-    }
+    Span::new(low, low_open, high, high_open).ok_or(RowFault::Damaged)
 }
 
 // The share of an interest; none where its columns are null.
@@ -220,8 +217,8 @@ impl TableRow for InterestLine {
         has_columns(row, 10)?;
         Ok(InterestLine {
             item: number_at(row, 3)?,
-            kind: by_word(value_at(row, 4))?,
-            directness: by_word(value_at(row, 5))?,
+            kind: by_word_at(row, 4)?,
+            directness: by_word_at(row, 5)?,
             share: share_of(row)?,
             at: place_at(alloc, row)?,
         })

@@ -59,10 +59,7 @@ pub(crate) fn text<F: Form>(alloc: Global, value: ValueRef<'_>) -> Result<Text<F
     ensures exact { IfOk result (λ t.
         (owned value.entry ≡ sql.Text t) × (is_utf8 t ≡ true) × (F.is_form t ≡ true)) }
 {
-    match Text::read(alloc, word(value)?)? {
-        Some(text) => Ok(text),
-        None => Err(RowFault::Damaged),
-    }
+    Text::read(alloc, word(value)?)?.ok_or(RowFault::Damaged)
 }
 
 /// A text of the form, or null.
@@ -147,6 +144,20 @@ pub(crate) fn text_at<F: Form>(alloc: Global, row: &Row, at: usize) -> Result<Te
         (column row.now at ≡ sql.Text t) × (is_utf8 t ≡ true) × (F.is_form t ≡ true)) }
 {
     text(alloc, value_at(row, at))
+}
+
+/// The text of the form in a column, or null.
+pub(crate) fn text_or_null_at<F: Form>(
+    alloc: Global,
+    row: &Row,
+    at: usize,
+) -> Result<Option<Text<F>>, RowFault>
+    ensures reads { (o : Option (List ℕ)) → column row.now at ≡ or_null o
+        → IfSome o (λ t. IsUtf8 t × (F.is_form t ≡ true)) → IsRead result o }
+    ensures exact { IfOk result (λ o. (column row.now at ≡ or_null o)
+        × IfSome o (λ t. (is_utf8 t ≡ true) × (F.is_form t ≡ true))) }
+{
+    text_or_null(alloc, value_at(row, at))
 }
 
 /// The number of 32 bits in a column.

@@ -3,7 +3,7 @@ use Rattle.sqlite.specs.Effect.{Database}
 use Rattle.bor_store_sql.specs.Rows.Encoding.{Contents, period_columns}
 use Rattle.bor_store_sql.specs.Moving.{MakesPeriod, PutsPeriods, SetsVersion, MovesRows}
 use Rattle.bor_store_sql.specs.Shown.{Has, HasFirst}
-use Rattle.bor_store_sql.proofs.Moves.{both_move, state}
+use Rattle.bor_store_sql.proofs.Moves.{both_move, fails, state, then_fails}
 use Rattle.bor_store_sql.proofs.moving.move_rows.Goals as goal
 
 pub returns-clause-moves : goal.returns-clause-moves
@@ -16,3 +16,9 @@ returns-clause-moves g c =
     let filled : Database → Database → Type 0 = λ old new. (t : Contents) → HasFirst t old → Has (record t { periods = map period_columns ps }) new in
     let both = both_move MakesPeriod (PutsPeriods ps) filled s0 s1 s2 _ (λ makes puts t has. puts (record t { periods = [] }) (makes t has)) c.in_ok-create_period.ensures.moves c.in_ok-put_rows.ensures.moves in
     both_move filled SetsVersion (MovesRows ps) s0 s2 s3 c.set_version.result (λ fills sets t one has. sets (record t { periods = map period_columns ps }) one (fills t has)) both c.set_version.ensures.moves
+
+pub returns-in_err-create_period-clause-moves : goal.returns-in_err-create_period-clause-moves
+returns-in_err-create_period-clause-moves g c = fails c.from_residual.ensures.0 c.in_err-create_period.ensures.moves
+
+pub returns-in_err-put_rows-clause-moves : goal.returns-in_err-put_rows-clause-moves
+returns-in_err-put_rows-clause-moves g c = then_fails c.from_residual-in_err-put_rows.ensures.0 c.in_ok-create_period.ensures.moves c.in_err-put_rows.ensures.moves
