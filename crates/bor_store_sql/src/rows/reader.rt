@@ -200,7 +200,7 @@ fn share_of(row: &Row) -> Result<Option<Span>, RowFault>
         value_at(row, 9),
     ) {
         (ValueRef::Null, ValueRef::Null, ValueRef::Null, ValueRef::Null) => Ok(None),
-        _ => Ok(Some(span_of(row)?)),
+        _ => span_of(row).map(Some),
     }
 }
 
@@ -276,7 +276,7 @@ fn status_of(row: &Row) -> Result<Option<Status>, RowFault>
 {
     match value_at(row, 8) {
         ValueRef::Null => Ok(None),
-        value => Ok(Some(by_word(value)?)),
+        value => by_word(value).map(Some),
     }
 }
 

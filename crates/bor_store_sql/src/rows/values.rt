@@ -75,7 +75,7 @@ pub(crate) fn text_or_null<F: Form>(
 {
     match value {
         ValueRef::Null => Ok(None),
-        _ => Ok(Some(text(alloc, value)?)),
+        _ => text(alloc, value).map(Some),
     }
 }
 
@@ -132,7 +132,7 @@ pub(crate) fn day_or_null(value: ValueRef<'_>) -> Result<Option<Day>, RowFault>
 {
     match value {
         ValueRef::Null => Ok(None),
-        _ => Ok(Some(day(value)?)),
+        _ => day(value).map(Some),
     }
 }
 

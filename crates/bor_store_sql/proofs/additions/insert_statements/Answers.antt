@@ -6,7 +6,7 @@ use Rattle.bor_store_sql.specs.Changing.{Any, in_turn, with_one_placed}
 use Rattle.bor_store_sql.specs.Shown.{StepsTo}
 use Rattle.bor_store_sql.specs.Rows.Stored.{IsCounted}
 use Rattle.bor_store_sql.proofs.Lists.{next_in_turn}
-use Rattle.bor_store_sql.proofs.Moves.{one_more, state}
+use Rattle.bor_store_sql.proofs.Moves.{fails, one_more, state, then_fails}
 use Rattle.bor_store_sql.proofs.additions.insert_statements.Goals as goal
 
 pub loop-statement-preserved : goal.loop-statement-preserved
@@ -32,3 +32,9 @@ pub returns-clause-steps : goal.returns-clause-steps
 returns-clause-steps g c =
     subst (λ xs. StepsTo Any (in_turn (λ k x. with_one_placed (standing c.args.filing.agent c.args.filing.number k x)) 1 xs) (state g.S.Store c.args.tx.now.conn.now) (state g.S.Store c.loop-statement.tx.conn.now) (Ok (tt {0})))
     (take_all c.loop-statement.statement-index c.args.statements.now c.loop-statement-test.false) c.loop-statement.invariant.steps
+
+pub returns-in_err-at-clause-steps : goal.returns-in_err-at-clause-steps
+returns-in_err-at-clause-steps g c = fails c.from_residual.ensures.0 c.loop-statement.invariant.steps
+
+pub returns-in_err-insert_placed-clause-steps : goal.returns-in_err-insert_placed-clause-steps
+returns-in_err-insert_placed-clause-steps g c = then_fails c.from_residual-in_err-insert_placed.ensures.0 c.loop-statement.invariant.steps c.in_err-insert_placed.ensures.steps
