@@ -8,7 +8,7 @@ ghost use Rattle.bor_store_sql.specs.Rows.Seen.{known_at, line_shown, type_of_pa
 use crate::rows::fault::RowFault;
 use crate::rows::reader::TableRow;
 use crate::rows::typed::{FilingRow, Part, StatementRow};
-use crate::rows::values::{flag, value_at};
+use crate::rows::values::flag_at;
 use bods_read::{RecordType, Status};
 use bor_records::Last;
 use bor_register::FilingLine;
@@ -33,7 +33,7 @@ pub fn first_flag(rows: &[Row]) -> Result<bool, RowFault>
         → result ≡ Ok (unwrap_or (slice_get bs 0) false) }
 {
     match rows.first() {
-        Some(row) => flag(value_at(row, 0)),
+        Some(row) => flag_at(row, 0),
         None => Ok(false),
     }
 }

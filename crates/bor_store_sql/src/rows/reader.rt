@@ -18,8 +18,8 @@ use crate::rows::typed::{
     AgentRow, FilingRow, IdentifierRow, InterestLine, PeriodRow, RegisterRow, StatementRow,
 };
 use crate::rows::values::{
-    blob, day_at, day_or_null, flag_at, has_columns, is_number, number_at, percent, text_at,
-    value_at,
+    blob_at, day_at, day_or_null_at, flag_at, has_columns, is_number, number_at, percent_at,
+    text_at, value_at,
 };
 use crate::rows::words::{by_word, by_word_at};
 use crate::texts::changes::VERSION;
@@ -119,7 +119,7 @@ impl TableRow for Filing {
             number: number_at(row, 0)?,
             due: day_at(row, 1)?,
             withdrawn: flag_at(row, 2)?,
-            bytes: blob(alloc, value_at(row, 3))?,
+            bytes: blob_at(alloc, row, 3)?,
         })
     }
 }
@@ -180,9 +180,9 @@ fn span_of(row: &Row) -> Result<Span, RowFault>
         → result ≡ Ok s }
     ensures exact { IfOk result (λ s. HasFour row.now 6 (share_columns (Some s)) × IsShare s) }
 {
-    let low = percent(value_at(row, 6))?;
+    let low = percent_at(row, 6)?;
     let low_open = flag_at(row, 7)?;
-    let high = percent(value_at(row, 8))?;
+    let high = percent_at(row, 8)?;
     let high_open = flag_at(row, 9)?;
     Span::new(low, low_open, high, high_open).ok_or(RowFault::Damaged)
 }
@@ -238,8 +238,8 @@ impl TableRow for PeriodRow {
         has_columns(row, 6)?;
         Ok(PeriodRow {
             item: number_at(row, 3)?,
-            starts: day_or_null(value_at(row, 4))?,
-            ends: day_or_null(value_at(row, 5))?,
+            starts: day_or_null_at(row, 4)?,
+            ends: day_or_null_at(row, 5)?,
             at: place_at(alloc, row)?,
         })
     }

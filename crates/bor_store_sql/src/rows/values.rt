@@ -62,29 +62,30 @@ pub(crate) fn text<F: Form>(alloc: Global, value: ValueRef<'_>) -> Result<Text<F
     Text::read(alloc, word(value)?)?.ok_or(RowFault::Damaged)
 }
 
-/// A text of the form, or null.
-pub(crate) fn text_or_null<F: Form>(
+/// The text of the form in a column, or null.
+pub(crate) fn text_or_null_at<F: Form>(
     alloc: Global,
-    value: ValueRef<'_>,
+    row: &Row,
+    at: usize,
 ) -> Result<Option<Text<F>>, RowFault>
-    ensures reads { (o : Option (List ℕ)) → owned value.entry ≡ or_null o
+    ensures reads { (o : Option (List ℕ)) → column row.now at ≡ or_null o
         → IfSome o (λ t. IsUtf8 t × (F.is_form t ≡ true)) → IsRead result o }
     ensures exact { IfOk result (λ o.
-        (owned value.entry ≡ or_null o)
+        (column row.now at ≡ or_null o)
         × IfSome o (λ t. (is_utf8 t ≡ true) × (F.is_form t ≡ true))) }
 {
-    match value {
+    match value_at(row, at) {
         ValueRef::Null => Ok(None),
-        _ => text(alloc, value).map(Some),
+        value => text(alloc, value).map(Some),
     }
 }
 
-/// A number of 32 bits.
-pub(crate) fn number(value: ValueRef<'_>) -> Result<u32, RowFault>
-    ensures reads { (n : ℕ) → owned value.entry ≡ sql.Int (pos n) → n < 2 ^ 32 → result ≡ Ok n }
-    ensures exact { IfOk result (λ n. (owned value.entry ≡ sql.Int (pos n)) × (n < 2 ^ 32)) }
+/// The number of 32 bits in a column.
+pub(crate) fn number_at(row: &Row, at: usize) -> Result<u32, RowFault>
+    ensures reads { (n : ℕ) → column row.now at ≡ sql.Int (pos n) → n < 2 ^ 32 → result ≡ Ok n }
+    ensures exact { IfOk result (λ n. (column row.now at ≡ sql.Int (pos n)) × (n < 2 ^ 32)) }
 {
-    match value {
+    match value_at(row, at) {
         ValueRef::Int(n) => match u32::try_from(n) {
             Ok(n) => Ok(n),
             Err(_) => Err(RowFault::Damaged),
@@ -93,12 +94,12 @@ pub(crate) fn number(value: ValueRef<'_>) -> Result<u32, RowFault>
     }
 }
 
-/// A percent, or any other number of 8 bits.
-pub(crate) fn percent(value: ValueRef<'_>) -> Result<u8, RowFault>
-    ensures reads { (n : ℕ) → owned value.entry ≡ sql.Int (pos n) → n < 2 ^ 8 → result ≡ Ok n }
-    ensures exact { IfOk result (λ n. (owned value.entry ≡ sql.Int (pos n)) × (n < 2 ^ 8)) }
+/// The percent in a column, or any other number of 8 bits.
+pub(crate) fn percent_at(row: &Row, at: usize) -> Result<u8, RowFault>
+    ensures reads { (n : ℕ) → column row.now at ≡ sql.Int (pos n) → n < 2 ^ 8 → result ≡ Ok n }
+    ensures exact { IfOk result (λ n. (column row.now at ≡ sql.Int (pos n)) × (n < 2 ^ 8)) }
 {
-    match value {
+    match value_at(row, at) {
         ValueRef::Int(n) => match u8::try_from(n) {
             Ok(n) => Ok(n),
             Err(_) => Err(RowFault::Damaged),
@@ -124,15 +125,15 @@ pub(crate) fn day(value: ValueRef<'_>) -> Result<Day, RowFault>
     }
 }
 
-/// A day, or null.
-pub(crate) fn day_or_null(value: ValueRef<'_>) -> Result<Option<Day>, RowFault>
-    ensures reads { (o : Option ℤ) → owned value.entry ≡ day_or_null o → IfSome o IsDay
+/// The day in a column, or null.
+pub(crate) fn day_or_null_at(row: &Row, at: usize) -> Result<Option<Day>, RowFault>
+    ensures reads { (o : Option ℤ) → column row.now at ≡ day_or_null o → IfSome o IsDay
         → result ≡ Ok o }
-    ensures exact { IfOk result (λ o. (owned value.entry ≡ day_or_null o) × IfSome o IsDay) }
+    ensures exact { IfOk result (λ o. (column row.now at ≡ day_or_null o) × IfSome o IsDay) }
 {
-    match value {
+    match value_at(row, at) {
         ValueRef::Null => Ok(None),
-        _ => day(value).map(Some),
+        value => day(value).map(Some),
     }
 }
 
@@ -146,42 +147,12 @@ pub(crate) fn text_at<F: Form>(alloc: Global, row: &Row, at: usize) -> Result<Te
     text(alloc, value_at(row, at))
 }
 
-/// The text of the form in a column, or null.
-pub(crate) fn text_or_null_at<F: Form>(
-    alloc: Global,
-    row: &Row,
-    at: usize,
-) -> Result<Option<Text<F>>, RowFault>
-    ensures reads { (o : Option (List ℕ)) → column row.now at ≡ or_null o
-        → IfSome o (λ t. IsUtf8 t × (F.is_form t ≡ true)) → IsRead result o }
-    ensures exact { IfOk result (λ o. (column row.now at ≡ or_null o)
-        × IfSome o (λ t. (is_utf8 t ≡ true) × (F.is_form t ≡ true))) }
-{
-    text_or_null(alloc, value_at(row, at))
-}
-
-/// The number of 32 bits in a column.
-pub(crate) fn number_at(row: &Row, at: usize) -> Result<u32, RowFault>
-    ensures reads { (n : ℕ) → column row.now at ≡ sql.Int (pos n) → n < 2 ^ 32 → result ≡ Ok n }
-    ensures exact { IfOk result (λ n. (column row.now at ≡ sql.Int (pos n)) × (n < 2 ^ 32)) }
-{
-    number(value_at(row, at))
-}
-
 /// The day in a column.
 pub(crate) fn day_at(row: &Row, at: usize) -> Result<Day, RowFault>
     ensures reads { (z : ℤ) → column row.now at ≡ sql.Int z → IsDay z → result ≡ Ok z }
     ensures exact { IfOk result (λ z. (column row.now at ≡ sql.Int z) × IsDay z) }
 {
     day(value_at(row, at))
-}
-
-/// The truth value in a column.
-pub(crate) fn flag_at(row: &Row, at: usize) -> Result<bool, RowFault>
-    ensures reads { (b : Bool) → column row.now at ≡ truth b → result ≡ Ok b }
-    ensures exact { IfOk result (λ b. column row.now at ≡ truth b) }
-{
-    flag(value_at(row, at))
 }
 
 /// Whether it is this number; every other value is `Damaged`.
@@ -206,24 +177,24 @@ pub(crate) fn are_null(first: ValueRef<'_>, second: ValueRef<'_>) -> Result<(), 
     }
 }
 
-/// A truth value: 0 or 1.
-pub(crate) fn flag(value: ValueRef<'_>) -> Result<bool, RowFault>
-    ensures reads { (b : Bool) → owned value.entry ≡ truth b → result ≡ Ok b }
-    ensures exact { IfOk result (λ b. owned value.entry ≡ truth b) }
+/// The truth value in a column: 0 or 1.
+pub(crate) fn flag_at(row: &Row, at: usize) -> Result<bool, RowFault>
+    ensures reads { (b : Bool) → column row.now at ≡ truth b → result ≡ Ok b }
+    ensures exact { IfOk result (λ b. column row.now at ≡ truth b) }
 {
-    match value {
+    match value_at(row, at) {
         ValueRef::Int(0) => Ok(false),
         ValueRef::Int(1) => Ok(true),
         _ => Err(RowFault::Damaged),
     }
 }
 
-/// Bytes.
-pub(crate) fn blob(alloc: Global, value: ValueRef<'_>) -> Result<Listed<u8>, RowFault>
-    ensures reads { (bytes : List ℕ) → owned value.entry ≡ sql.Blob bytes → IsRead result bytes }
-    ensures exact { IfOk result (λ bytes. owned value.entry ≡ sql.Blob bytes) }
+/// The bytes in a column.
+pub(crate) fn blob_at(alloc: Global, row: &Row, at: usize) -> Result<Listed<u8>, RowFault>
+    ensures reads { (bytes : List ℕ) → column row.now at ≡ sql.Blob bytes → IsRead result bytes }
+    ensures exact { IfOk result (λ bytes. column row.now at ≡ sql.Blob bytes) }
 {
-    match value {
+    match value_at(row, at) {
         ValueRef::Blob(bytes) => Ok(Listed::new(Vec::from_slice(alloc, bytes)?)),
         _ => Err(RowFault::Damaged),
     }
