@@ -1,9 +1,8 @@
 -- The statements of a declaration with their lists, and which of them a viewer sees.
-use Rattle.std.proofs.Common.{◌≡◌, ℕ, ℤ, ◌+◌, ◌<◌, List, [], ◌∷◌, ◌++◌, map, append-nil, append_assoc, Bool, true, false, cond, Option, Some, None, option_map, refl, sym, ap, ap₂, ◌∙◌, slice_get, arith, All, ◌==◌, ◌&&◌, ◌||◌, filter, if◌then◌else◌}
+use Rattle.std.proofs.Common.{◌≡◌, ℕ, ℤ, ◌+◌, ◌<◌, List, [], ◌∷◌, ◌++◌, map, append-nil, append_assoc, Bool, true, false, cond, Option, Some, None, option_map, unwrap_or, refl, sym, ap, ap₂, ◌∙◌, slice_get, arith, All, ◌==◌, ◌&&◌, ◌||◌, filter, if◌then◌else◌}
 use Rattle.std.specs.List.{flat_map, list_any}
 use Rattle.std.proofs.lemmas.List.Elements.{All-head, All-tail, All-filter}
 use Rattle.std.proofs.lemmas.List.Folds.{flat_map-map}
-use Rattle.std.proofs.lemmas.Option.{none-some, same_Some}
 use Rattle.bor_terms.specs.Texts.{is_same}
 use Rattle.bods_read.specs.declared.details.Details.{Details}
 use Rattle.bods_read.specs.declared.details.Details.TheVariants as details
@@ -94,21 +93,14 @@ first_passes v number n (f ∷ fs) h = go (f.number == number) refl (first_passe
     go false e rest = rest
 
 module _ (viewer : List ℕ) (day : ℤ) (agent : List ℕ) (number : ℕ) (fs : List AcceptedFiling) (numbers : AreNumbered 1 fs) where
-  -- the filing of this row is seen
-  pub seen_is : (row : FilingRow) → Some row ≡ option_map (filing_row agent) (slice_get (numbered number fs) 0) → is_line_visible viewer day row ≡ list_any (λ f. f.number == number && is_visible viewer day agent f) fs
-  seen_is row is = go (slice_get (numbered number fs) 0) is ∙ sym (first_passes (is_visible viewer day agent) number 1 fs numbers)
+  -- whether the filing that is found is seen
+  pub seen_is : (found : Option FilingRow) → found ≡ option_map (filing_row agent) (slice_get (numbered number fs) 0)
+      → unwrap_or (option_map (is_line_visible viewer day) found) false ≡ list_any (λ f. f.number == number && is_visible viewer day agent f) fs
+  seen_is found is = ap (λ o. unwrap_or (option_map (is_line_visible viewer day) o) false) is ∙ go (slice_get (numbered number fs) 0) ∙ sym (first_passes (is_visible viewer day agent) number 1 fs numbers)
     where
-      go : (o : Option AcceptedFiling) → Some row ≡ option_map (filing_row agent) o → is_line_visible viewer day row ≡ passes (is_visible viewer day agent) o
-      go None e = absurd (none-some row (sym e))
-      go (Some f) e = ap (is_line_visible viewer day) (same_Some row (filing_row agent f) e)
-
-  -- there is no such filing
-  pub unseen_is : None ≡ option_map (filing_row agent) (slice_get (numbered number fs) 0) → false ≡ list_any (λ f. f.number == number && is_visible viewer day agent f) fs
-  unseen_is is = go (slice_get (numbered number fs) 0) is ∙ sym (first_passes (is_visible viewer day agent) number 1 fs numbers)
-    where
-      go : (o : Option AcceptedFiling) → None ≡ option_map (filing_row agent) o → false ≡ passes (is_visible viewer day agent) o
-      go None e = refl
-      go (Some f) e = absurd (none-some (filing_row agent f) e)
+      go : (o : Option AcceptedFiling) → unwrap_or (option_map (is_line_visible viewer day) (option_map (filing_row agent) o)) false ≡ passes (is_visible viewer day agent) o
+      go None = refl
+      go (Some f) = refl
 
 -- nobody sees a filing with the number 0
 pub nothing_seen : (viewer : List ℕ) (day : ℤ) (agent : List ℕ) (fs : List AcceptedFiling) → AreNumbered 1 fs → false ≡ is_number_seen viewer day agent fs 0

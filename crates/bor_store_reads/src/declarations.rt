@@ -1,14 +1,14 @@
 //! The rows of one declaration that a viewer sees.
 
-ghost use Rattle.std.specs.Prelude.{◌≡◌, ◌++◌, ◌∷◌, [], if◌then◌else◌, false, filter, map, MatchResult};
+ghost use Rattle.std.specs.Prelude.{◌≡◌, ◌++◌, ◌∷◌, [], if◌then◌else◌, false, filter, map, IfOk, MatchResult};
 ghost use Rattle.std.specs.List.{flat_map};
 ghost use Rattle.bor_register.specs.Register.{filings_of};
 ghost use Rattle.bor_register.specs.Rows.{rows_of};
-ghost use Rattle.bor_store_sql.specs.Rows.Placed.{bare, interest_line, period_rows};
+ghost use Rattle.bor_store_sql.specs.Rows.Placed.{bare, identifier_rows, interest_line, interest_rows, period_rows, AreApart};
 ghost use Rattle.bor_store_sql.specs.Rows.Seen.{is_seen, row_placed};
 ghost use Rattle.bor_store_sql.specs.Selected.{identifiers_at, in_declaration, interests_at, placed_of};
 ghost use Rattle.bor_store_reads.specs.Answering.{IsNoDamage, ReadsIn};
-ghost use Rattle.bor_store_reads.specs.Asking.{part_identifiers, part_interests};
+ghost use Rattle.bor_store_reads.specs.Asking.{part_identifiers, part_interests, IsKnown};
 
 use crate::fault::ReadError;
 use crate::known::{Known, known_of};
@@ -161,6 +161,22 @@ fn identifiers_of<S: Alter>(
     Ok(identifiers)
 }
 
+// These statements with these interests, and with their identifiers.
+fn with_identifiers<S: Alter>(
+    conn: &mut Connection<S>,
+    alloc: Global,
+    statements: Vec<StatementRow>,
+    interests_sorted: &[InterestRow],
+) -> Result<Vec<Placed>, ReadError>
+    ensures { ReadsIn S.Store conn.old conn.new result (λ r placed. (ps : _) → AreApart ps
+        → statements.items ≡ map bare ps → interests_sorted.now ≡ flat_map interest_rows ps
+        → flat_map (λ row. part_identifiers row.part row.at r.members) statements.items
+        ≡ flat_map identifier_rows ps → placed.items ≡ ps) }
+{
+    let identifiers = identifiers_of(conn, alloc, statements.as_slice())?;
+    Ok(joined(alloc, statements, interests_sorted, identifiers.as_slice())?)
+}
+
 // The declaration's live statements.
 fn placed<S: Alter>(
     conn: &mut Connection<S>,
@@ -173,13 +189,15 @@ fn placed<S: Alter>(
 {
     let statements = statements(conn, alloc, agent, declaration)?;
     let interests = interests_of(conn, alloc, statements.as_slice())?;
-    let identifiers = identifiers_of(conn, alloc, statements.as_slice())?;
-    Ok(joined(
-        alloc,
-        statements,
-        interests.as_slice(),
-        identifiers.as_slice(),
-    )?)
+    with_identifiers(conn, alloc, statements, interests.as_slice())
+}
+
+// Adds the statement's row.
+fn push_row(rows: &mut Vec<Row>, placed: Placed) -> Result<(), ReadError>
+    ensures { MatchResult result (λ _. rows.new.items ≡ rows.old.items ++ row_placed placed ∷ [])
+        IsNoDamage }
+{
+    Ok(rows.push(placed.into_row())?)
 }
 
 // Adds the statement's row where it is seen.
@@ -188,9 +206,42 @@ fn push_if(rows: &mut Vec<Row>, seen: bool, placed: Placed) -> Result<(), ReadEr
         ≡ rows.old.items ++ (if seen then row_placed placed ∷ [] else [])) IsNoDamage }
 {
     if seen {
-        rows.push(placed.into_row())?;
+        push_row(rows, placed)
+    } else {
+        drop(placed);
+        Ok(())
     }
-    Ok(())
+}
+
+// Adds the row of a statement of the agent where the viewer sees it on a day, and tells what is
+// known of its filing then.
+fn push_seen<S: Alter>(
+    conn: &mut Connection<S>,
+    alloc: Global,
+    viewer: &AgentName,
+    agent: &AgentName,
+    day: Day,
+    last: Known,
+    rows: &mut Vec<Row>,
+    placed: Placed,
+) -> Result<Known, ReadError>
+    ensures number { IfOk result (λ known. known.number ≡ placed.at.filing) }
+    ensures reads { ReadsIn S.Store conn.old conn.new result (λ r known.
+        IsKnown viewer.now day agent.now (filings_of agent.now r.members) last
+        → IsKnown viewer.now day agent.now (filings_of agent.now r.members) known) }
+    ensures pushed { IfOk result (λ known. rows.new.items
+        ≡ rows.old.items ++ (if known.seen then row_placed placed ∷ [] else [])) }
+{
+    match known_of(conn, alloc, viewer, agent, day, last, placed.at.filing) {
+        Ok(known) => {
+            push_if(rows, known.seen, placed)?;
+            Ok(known)
+        }
+        Err(error) => {
+            drop(placed);
+            Err(error)
+        }
+    }
 }
 
 // The rows of these statements of the agent that the viewer sees on a day.
@@ -214,8 +265,7 @@ fn seen<S: Alter>(
         seen: false,
     };
     for placed in statements {
-        known = known_of(conn, alloc, viewer, agent, day, known, placed.at.filing)?;
-        push_if(&mut rows, known.seen, placed)?;
+        known = push_seen(conn, alloc, viewer, agent, day, known, &mut rows, placed)?;
     }
     Ok(rows)
 }

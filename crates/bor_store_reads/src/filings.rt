@@ -87,6 +87,16 @@ fn found_last<S: Alter>(
     first_value(alloc, last_filing(conn, agent.as_str()))
 }
 
+// The number of the last filing; 0 where there is none.
+fn number_of(last: Option<FilingRow>) -> usize
+    ensures { result ≡ unwrap_or (option_map (λ f. f.number) last) 0 }
+{
+    match last {
+        Some(row) => row.number as usize,
+        None => 0,
+    }
+}
+
 /// How many filings the agent has, withdrawn ones included: the number of the last one.
 pub fn filing_count<S: Alter>(
     conn: &mut Connection<S>,
@@ -96,10 +106,8 @@ pub fn filing_count<S: Alter>(
     ensures { ReadsIn S.Store conn.old conn.new result (λ r count.
         count ≡ length (filings_of agent.now r.members)) }
 {
-    match found_last(conn, alloc, agent)? {
-        Some(row) => Ok(row.number as usize),
-        None => Ok(0),
-    }
+    let last = found_last(conn, alloc, agent)?;
+    Ok(number_of(last))
 }
 
 // The rows of the agent's filings, by number.

@@ -8,9 +8,7 @@ use Rattle.bor_store_reads.proofs.declarations.read_rows_of.Goals as goal
 
 pub returns : goal.returns
 returns g c =
-    let viewer = c.args.viewer.now in
-    let agent = c.args.agent.now in
     read_as (read_next c.in_ok-day.ensures (read_next c.in_ok-statements.ensures c.seen.ensures))
     (λ r rows stored is.
-    is.1.1 ∙ ap₂ (λ d ps. map row_placed (filter (is_seen viewer d agent (filings_of agent r.members)) ps)) is.0 is.1.0
-    ∙ sym (rows_of-placed viewer r.day agent c.args.declaration.now 1 (filings_of agent r.members) (own_numbered agent r.members stored.numbered)))
+    is.1.1 ∙ ap₂ (λ d ps. map row_placed (filter (is_seen c.args.viewer.now d c.args.agent.now (filings_of c.args.agent.now r.members)) ps)) is.0 is.1.0
+    ∙ sym (rows_of-placed c.args.viewer.now r.day c.args.agent.now c.args.declaration.now 1 (filings_of c.args.agent.now r.members) (own_numbered c.args.agent.now r.members stored.numbered)))
