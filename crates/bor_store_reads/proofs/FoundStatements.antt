@@ -208,28 +208,29 @@ module _ (agent declaration rec : List ℕ) (fs : List AcceptedFiling) (numbers 
       go (Some p) e = absurd (none-some (bare p) (sym e))
 
   module _ (row : StatementRow) (is : Some row ≡ option_map bare (last_or None series)) where
-    pub last_known : (filing : FilingRow) → Some filing ≡ option_map (filing_row agent) (slice_get (numbered row.at.filing fs) 0) → Some (known_at filing.due row) ≡ last_of declaration rec (live_of fs)
-    last_known filing found = go (last_or None series) is ∙ sym last_is
+    pub last_known : (due : ℤ) → Some due ≡ option_map (λ (f : FilingRow). f.due) (option_map (filing_row agent) (slice_get (numbered row.at.filing fs) 0)) → Some (known_at due row) ≡ last_of declaration rec (live_of fs)
+    last_known due found = go (last_or None series) is ∙ sym last_is
       where
-        due_is : (o : Option AcceptedFiling) → Some filing ≡ option_map (filing_row agent) o → filing.due ≡ due_in o
-        due_is None e = absurd (none-some filing (sym e))
-        due_is (Some f) e = ap (λ (x : FilingRow). x.due) (same_Some filing (filing_row agent f) e)
+        due_is : (o : Option AcceptedFiling) → Some due ≡ option_map (λ (f : FilingRow). f.due) (option_map (filing_row agent) o) → due ≡ due_in o
+        due_is None e = absurd (none-some due (sym e))
+        due_is (Some f) e = same_Some due f.due e
 
-        go : (o : Option Placed) → Some row ≡ option_map bare o → Some (known_at filing.due row) ≡ option_map known_of (option_map (live_at fs) o)
+        go : (o : Option Placed) → Some row ≡ option_map bare o → Some (known_at due row) ≡ option_map known_of (option_map (live_at fs) o)
         go None e = absurd (none-some row (sym e))
         go (Some p) e =
             let same : row ≡ bare p = same_Some row (bare p) e in
-            let due : filing.due ≡ due_in (slice_get (numbered p.at.filing fs) 0) = subst (λ (x : StatementRow). filing.due ≡ due_in (slice_get (numbered x.at.filing fs) 0)) same (due_is (slice_get (numbered row.at.filing fs) 0) found) in
-            ap (λ x. Some (known_at filing.due x)) same ∙ ap₂ (λ kind d. Some (record { kind = kind; status = (known_at d (bare p)).status; day = p.statement.day; due = d })) (type_is p.statement.details) due
+            let is_due : due ≡ due_in (slice_get (numbered p.at.filing fs) 0) = subst (λ (x : StatementRow). due ≡ due_in (slice_get (numbered x.at.filing fs) 0)) same (due_is (slice_get (numbered row.at.filing fs) 0) found) in
+            ap (λ x. Some (known_at due x)) same ∙ ap₂ (λ kind d. Some (record { kind = kind; status = (known_at d (bare p)).status; day = p.statement.day; due = d })) (type_is p.statement.details) is_due
 
-    pub last_has_filing : None ≡ option_map (filing_row agent) (slice_get (numbered row.at.filing fs) 0) → ⊥
+    pub last_has_filing : None ≡ option_map (λ (f : FilingRow). f.due) (option_map (filing_row agent) (slice_get (numbered row.at.filing fs) 0)) → ⊥
     last_has_filing none = go (last_or None series) is last_there
       where
         go : (o : Option Placed) → Some row ≡ option_map bare o → IfSome o (HasFiling fs) → ⊥
         go None e h = none-some row (sym e)
         go (Some p) e h =
             let same : row ≡ bare p = same_Some row (bare p) e in
-            none-some (filing_row agent h.0) (none ∙ ap (λ (x : StatementRow). option_map (filing_row agent) (slice_get (numbered x.at.filing fs) 0)) same ∙ ap (option_map (filing_row agent)) h.1)
+            let due_at : Option AcceptedFiling → Option ℤ = λ o. option_map (λ (f : FilingRow). f.due) (option_map (filing_row agent) o) in
+            none-some h.0.due (none ∙ ap (λ (x : StatementRow). due_at (slice_get (numbered x.at.filing fs) 0)) same ∙ ap due_at h.1)
 
 -- ---- successors
 

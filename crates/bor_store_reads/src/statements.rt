@@ -16,7 +16,7 @@ use crate::values::{any, first_value};
 use bor_records::Last;
 use bor_store_sql::rows::{FilingRow, StatementRow};
 use bor_store_sql::{last_of_series, line_by_number, statement_by_id};
-use bor_terms::{AgentName, Ident};
+use bor_terms::{AgentName, Day, Ident};
 use sqlite::{Alter, Connection};
 use std::alloc::Global;
 
@@ -64,6 +64,16 @@ pub(crate) fn found_filing<S: Alter>(
     first_value(alloc, line_by_number(conn, agent.as_str(), number))
 }
 
+// The due day of the filing that was found.
+fn due_of(found: Option<FilingRow>) -> Option<Day>
+    ensures { result ≡ option_map (λ f. f.due) found }
+{
+    match found {
+        Some(filing) => Some(filing.due),
+        None => None,
+    }
+}
+
 /// The record's last live statement, as far as the rules ask; `rec` is its identifier. `None` where
 /// the record has none.
 pub fn read_last<S: Alter>(
@@ -79,8 +89,8 @@ pub fn read_last<S: Alter>(
     let Some(row) = found_statement(conn, alloc, agent, declaration, rec)? else {
         return Ok(None);
     };
-    match found_filing(conn, alloc, agent, row.at.filing)? {
-        Some(filing) => Ok(Some(row.known(filing.due))),
+    match due_of(found_filing(conn, alloc, agent, row.at.filing)?) {
+        Some(due) => Ok(Some(row.known(due))),
         None => Err(ReadError::Damaged),
     }
 }
