@@ -1,6 +1,7 @@
 pub mod Outcomes
 pub mod Earlier
 pub mod Lodgings
+pub mod Stops
 pub mod Additions
 pub mod Changes
 pub mod Refusals

@@ -208,8 +208,8 @@ fn overview<K: Keep>(keep: &mut K) -> Result<DeskReply, DeskFault>
     ensures answer { Promised K.meaning keep.old keep.new (λ r.
         IsAnswered (reply_of result) (registrar_step r office.Register).answer) }
 {
-    let agents = keep.agents()?;
     let day = keep.day()?;
+    let agents = keep.agents()?;
     Ok(DeskReply::Register {
         agents: Listed::new(agents),
         day,

@@ -18,7 +18,7 @@ use Rattle.bor_records.specs.Links.Nodes.{node_cmp, same_node}
 use Rattle.bor_records.specs.Links.Orders.{node_total}
 use Rattle.bor_records.specs.Links.Shown.{Shown, is_entity, listed_at, same_record, share_identifier}
 use Rattle.bor_records.specs.declared.row.Row.{Row}
-use Rattle.bor_records.specs.Links.Rows.{node_in, nodes_of, shown_of}
+use Rattle.bor_records.specs.Links.Rows.{node_in, nodes_of}
 use Rattle.bor_records.specs.Links.Series.{open_at}
 use Rattle.bor_records.proofs.OnLinks.ByKey.{listed_by_key}
 use Rattle.bor_records.specs.Links.Signs.{sign_cmp, signs}
@@ -101,20 +101,20 @@ pub listed_of : (day : ℤ) (rows : List Row) (node : Node) (row : Option Row) (
 listed_of day rows node row one latest made = listed_by_key day node rows ∙ ap (λ (o : Option Row). option_and_then node_in o) (sym latest) ∙ sym made
 
 -- a record that is no open entity has no sign
-pub kin_same : (day : ℤ) (rows : List Row) (nodes : List Node) (node : Node) (kin : Kin) (row : Option Row) (one : Option OpenNode) → row ≡ open_at day node rows → one ≡ option_and_then node_in row
-    → IfSome one (λ x. is_entity x.info ≡ false) → AreKin (shown_of day rows) nodes NoneFound kin → AreKin (shown_of day rows) (nodes ++ node ∷ []) NoneFound kin
-kin_same day rows nodes node kin row one latest made closed of = record {
+pub kin_same : (s : Shown) (nodes : List Node) (node : Node) (kin : Kin) (one : Option OpenNode) → listed_at s.nodes node ≡ one
+    → IfSome one (λ x. is_entity x.info ≡ false) → AreKin s nodes NoneFound kin → AreKin s (nodes ++ node ∷ []) NoneFound kin
+kin_same s nodes node kin one listed closed of = record {
   of_node = of.of_node;
   of_sign = of.of_sign;
   each = λ n k on has. of.each n k (old n k on has) has;
   every = λ n k on has. of.every n k (old n k on has) has;
 }
   where
-    old : (n : Node) (k : Sign) → Contains (nodes ++ node ∷ []) n → HasSignAt (shown_of day rows) n k → Contains nodes n
+    old : (n : Node) (k : Sign) → Contains (nodes ++ node ∷ []) n → HasSignAt s n k → Contains nodes n
     old n k on has = elim (Contains-push_cases nodes node n on) [
       | inl was ↦ was
       | inr e ↦
-          let is : one ≡ Some has.0 = sym (listed_of day rows node row one latest made) ∙ ap (λ (z : Node). listed_at (nodes_of day rows) z) e ∙ has.1 in
+          let is : one ≡ Some has.0 = sym listed ∙ ap (λ (z : Node). listed_at s.nodes z) e ∙ has.1 in
           let no : is_entity has.0.info ≡ false = subst (λ (o : Option OpenNode). IfSome o (λ x. is_entity x.info ≡ false)) is closed in
           absurd (both_ways (is_entity has.0.info) no (has.2).0)
     ]

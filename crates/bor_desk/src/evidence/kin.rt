@@ -3,6 +3,7 @@
 ghost use Rattle.std.specs.Prelude.{◌≡◌, ◌++◌, ◌∷◌, [], IfOk, OnOk, IsTrue, List, Some};
 ghost use Rattle.bor_records.specs.declared.links.node.Node.{Node};
 ghost use Rattle.bor_records.specs.Links.Shown.{Shown, is_entity, listed_at};
+ghost use Rattle.bor_records.specs.Links.Rows.{node_in};
 ghost use Rattle.bor_records.specs.Links.Signs.{sign_cmp};
 ghost use Rattle.bor_records.specs.Links.Values.{under};
 ghost use Rattle.bor_records.specs.Promises.{Kept, Promised};
@@ -12,6 +13,7 @@ ghost use Rattle.bor_desk.specs.Operations.Outcomes.{Accounts, store_fault};
 
 use crate::operations::{Keep, StoreFault};
 use bor_chains::Node;
+use bor_records::Row;
 use bor_records::links::values::{self, Values};
 use bor_records::links::{OpenNode, Sign, node_of, signs_of};
 use bor_terms::{AgentName, Day};
@@ -51,6 +53,34 @@ fn take_all(
     Ok(taken)
 }
 
+// What is listed of a row's record.
+fn node_in(alloc: Global, row: Row) -> Result<Option<OpenNode>, AllocError>
+    ensures { IfOk result (λ node. node ≡ node_in row) }
+{
+    let made = node_of(alloc, &row);
+    drop(row);
+    made
+}
+
+// What is listed of a record.
+fn listed_of<K: Keep>(
+    alloc: Global,
+    keep: &mut K,
+    viewer: &AgentName,
+    day: Day,
+    node: &Node,
+) -> Result<Option<OpenNode>, StoreFault>
+    ensures kept { Kept K.meaning keep.old keep.new }
+    ensures accounted { Accounts K.meaning keep.old keep.new (store_fault Some result) }
+    ensures answer { Promised K.meaning keep.old keep.new (λ r. IfOk result (λ listed.
+        listed_at (seen_at viewer.now day r).nodes node.now ≡ listed)) }
+{
+    match keep.open_row(viewer, day, node)? {
+        Some(row) => Ok(node_in(alloc, row)?),
+        None => Ok(None),
+    }
+}
+
 /// The entities of a class by their signs, so that the aliases of one are found in memory.
 #[derive(Drop)]
 pub(crate) struct Kin {
@@ -84,6 +114,22 @@ impl Kin {
         Ok(())
     }
 
+    // Adds what is listed of a record, where it is an open entity.
+    fn add_listed(&mut self, alloc: Global, listed: &Option<OpenNode>) -> Result<(), AllocError>
+        ensures { OnOk result ((s : Shown) (nodes : List Node) (node : Node)
+            → AreKin s nodes NoneFound self.old → listed_at s.nodes node ≡ listed.now
+            → AreKin s (nodes ++ node ∷ []) NoneFound self.new) }
+    {
+        let Some(one) = listed else {
+            return Ok(());
+        };
+        if !one.info.is_entity() {
+            return Ok(());
+        }
+        self.add(alloc, one)?;
+        Ok(())
+    }
+
     // Adds a record, where it is an open entity.
     fn add_open<K: Keep>(
         &mut self,
@@ -99,18 +145,10 @@ impl Kin {
             ((nodes : List Node) → AreKin (seen_at viewer.now day r) nodes NoneFound self.old
             → AreKin (seen_at viewer.now day r) (nodes ++ node.now ∷ []) NoneFound self.new)) }
     {
-        let Some(row) = keep.open_row(viewer, day, node)? else {
-            return Ok(());
-        };
-        let made = node_of(alloc, &row);
-        drop(row);
-        let Some(one) = made? else {
-            return Ok(());
-        };
-        if !one.info.is_entity() {
-            return Ok(());
-        }
-        self.add(alloc, &one)?;
+        let listed = listed_of(alloc, keep, viewer, day, node)?;
+        let added = self.add_listed(alloc, &listed);
+        drop(listed);
+        added?;
         Ok(())
     }
 

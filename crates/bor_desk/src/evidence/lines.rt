@@ -78,16 +78,37 @@ pub(crate) fn record_of_next(alloc: Global, next: &Option<Link>) -> Result<Optio
     }
 }
 
+// The record of the first link of a person's chain.
+fn first_record(alloc: Global, person: &EvidencePerson) -> Result<Node, AllocError>
+    ensures { IfOk result (λ node. node ≡ link_record person.now.first) }
+{
+    record_of(alloc, &person.first)
+}
+
+// A person as evidence tells it, by the record of its first link.
+fn line_with(person: EvidencePerson, first: Node) -> PersonEvidence
+    requires { first ≡ link_record person.first }
+    ensures { result ≡ person_evidence person }
+{
+    PersonEvidence {
+        node: person.node,
+        info: person.info,
+        first,
+        links: person.links,
+    }
+}
+
 // A person as evidence tells it.
 fn person_line(alloc: Global, person: EvidencePerson) -> Result<PersonEvidence, AllocError>
     ensures { IfOk result (λ line. line ≡ person_evidence person) }
 {
-    Ok(PersonEvidence {
-        first: record_of(alloc, &person.first)?,
-        node: person.node,
-        info: person.info,
-        links: person.links,
-    })
+    match first_record(alloc, &person) {
+        Ok(first) => Ok(line_with(person, first)),
+        Err(error) => {
+            drop(person);
+            Err(error)
+        }
+    }
 }
 
 /// The persons as evidence tells them, in their order.

@@ -78,8 +78,7 @@ impl Goals {
             return Ok(Vec::new(alloc));
         }
         let (key, mut ways) = self.take(alloc, goal)?;
-        ways.look_for(alloc, keep, viewer, day, node, goal)?;
-        let way = ways.way_from(alloc, node)?;
+        let way = ways.way(alloc, keep, viewer, day, node, goal)?;
         self.put(key, ways)?;
         Ok(way)
     }

@@ -1,6 +1,7 @@
 //! The evidence that a viewer sees.
 
-ghost use Rattle.std.specs.Prelude.{◌≡◌, Some, IfOk};
+ghost use Rattle.std.specs.Prelude.{◌≡◌, List, Some, IfOk};
+ghost use Rattle.bor_records.specs.declared.links.node.Node.{Node};
 ghost use Rattle.bor_records.specs.Links.Rows.{shown_of};
 ghost use Rattle.bor_records.specs.Links.Aliases.{Same};
 ghost use Rattle.bor_records.specs.Links.Answers.{Identified};
@@ -10,7 +11,7 @@ ghost use Rattle.bor_desk.specs.Operations.Sight.{seen_by};
 ghost use Rattle.bor_desk.specs.Operations.Outcomes.{Accounts, store_fault};
 ghost use Rattle.bor_desk.specs.Refusals.{failed};
 ghost use Rattle.bor_desk.specs.Evidence.{AreRecords, AreLinkEvidence, IsLinkEvidence, goal_of, record_evidence};
-ghost use Rattle.bor_desk.specs.Mentioned.{records_at};
+ghost use Rattle.bor_desk.specs.Mentioned.{AreMentioned, records_at};
 ghost use Rattle.bor_desk.specs.Outcomes.{IsEvidenceFound, IsTreeFound};
 ghost use Rattle.bor_desk.specs.Ways.{AreGoals, AreLinked};
 
@@ -162,6 +163,26 @@ pub(crate) fn entities_seen<K: Keep>(
     records_seen(alloc, keep, viewer, day, &nodes)
 }
 
+// What the records say that stand in evidence, each of them once.
+fn records_told<K: Keep>(
+    alloc: Global,
+    keep: &mut K,
+    viewer: &AgentName,
+    day: Day,
+    entity: &Node,
+    tree: &Evidence,
+    links: &[LinkEvidence],
+) -> Result<Vec<RecordEvidence>, StoreFault>
+    ensures kept { Kept K.meaning keep.old keep.new }
+    ensures answer { Promised K.meaning keep.old keep.new (λ r. IfOk result (λ records.
+        (nodes : List Node) × AreMentioned entity.now tree.now links.now nodes
+        × (records.items ≡ records_at day (seen_by viewer.now r) nodes))) }
+    ensures accounted { Accounts K.meaning keep.old keep.new (store_fault Some result) }
+{
+    let nodes = records_in(alloc, entity, tree, links)?;
+    records_seen(alloc, keep, viewer, day, &nodes)
+}
+
 /// The evidence of an entity on a day, as the viewer sees it: why each person behind it is named,
 /// and what the records say that this stands on. For the tree the keep is asked for a class of
 /// entities and for the links into one at most twice, for the records by which entities are one as
@@ -180,8 +201,7 @@ pub(crate) fn evidence_seen<K: Keep>(
 {
     let tree = tree_seen(alloc, keep, viewer, entity, day)?;
     let links = link_lines(alloc, keep, viewer, day, tree.links.as_slice(), entity)?;
-    let nodes = records_in(alloc, entity, &tree, &links)?;
-    let records = records_seen(alloc, keep, viewer, day, &nodes)?;
+    let records = records_told(alloc, keep, viewer, day, entity, &tree, &links)?;
     let persons = person_lines(alloc, tree.persons.into_vec())?;
     Ok(EntityEvidence {
         persons: Listed::new(persons),

@@ -1,7 +1,8 @@
 //! The text of evidence.
 
-ghost use Rattle.std.specs.Prelude.{◌≡◌, ◌++◌, ℕ, List, Some, IfOk, OnOk, string_bytes};
+ghost use Rattle.std.specs.Prelude.{◌≡◌, ◌++◌, ℕ, List, Some, IfOk, OnOk, option_map, string_bytes};
 ghost use Rattle.bor_terms.specs.Day.{IsSpelling};
+ghost use Rattle.bor_records.specs.Links.Nodes.{link_record};
 ghost use Rattle.bor_records.specs.Promises.{Kept, Promised};
 ghost use Rattle.bor_desk.specs.Operations.Sight.{seen_by};
 ghost use Rattle.bor_desk.specs.Operations.Outcomes.{Accounts, store_fault};
@@ -9,13 +10,13 @@ ghost use Rattle.bor_desk.specs.Step.{evidence_answer};
 ghost use Rattle.bor_desk.specs.Texts.{answering};
 ghost use Rattle.bor_desk.specs.ChainReport.{IsTextOf, evidence_lines, evidenced_line, evidenced_lines, key_part, link_line, link_lines, next_part};
 
-use crate::evidence::lines::{record_of, record_of_next};
+use crate::evidence::lines::record_of;
 use crate::evidence::seen::tree_seen;
 use crate::operations::{Keep, StoreFault};
 use crate::refusal::DeskFault;
 use crate::report::{begin_text, end_text, person_text};
 use crate::text::{Text, refused_text};
-use bor_chains::{Evidence, EvidenceLink, EvidencePerson, Node};
+use bor_chains::{Evidence, EvidenceLink, EvidencePerson, Link, Node};
 use bor_terms::{AgentName, Day};
 use std::alloc::{AllocError, Global};
 
@@ -29,13 +30,22 @@ fn add_record(text: &mut String, node: &Node) -> Result<(), AllocError>
     write!(text, "\t{agent}\t{declaration}\t{rec}")
 }
 
+// Adds the record of a link.
+fn add_link_record(alloc: Global, text: &mut String, link: &Link) -> Result<(), AllocError>
+    ensures { OnOk result
+        (string_bytes text.new ≡ string_bytes text.old ++ key_part (link_record link.now)) }
+{
+    let node = record_of(alloc, link)?;
+    add_record(text, &node)
+}
+
 // Adds the line of a person, with the first link at its end.
 fn add_person(alloc: Global, text: &mut String, person: &EvidencePerson) -> Result<(), AllocError>
     ensures { OnOk result (string_bytes text.new
         ≡ string_bytes text.old ++ evidenced_line person.now) }
 {
     person_text(alloc, text, &person.node, person.links, &person.info)?;
-    add_record(text, &record_of(alloc, &person.first)?)?;
+    add_link_record(alloc, text, &person.first)?;
     writeln!(text)
 }
 
@@ -54,13 +64,14 @@ fn add_persons(
 }
 
 // Adds the link that follows, or that none does.
-fn add_next(text: &mut String, next: &Option<Node>) -> Result<(), AllocError>
-    ensures { OnOk result (string_bytes text.new ≡ string_bytes text.old ++ next_part next.now) }
+fn add_next(alloc: Global, text: &mut String, next: &Option<Link>) -> Result<(), AllocError>
+    ensures { OnOk result (string_bytes text.new
+        ≡ string_bytes text.old ++ next_part (option_map link_record next.now)) }
 {
     match next {
-        Some(node) => {
+        Some(link) => {
             write!(text, "\tnext")?;
-            add_record(text, node)
+            add_link_record(alloc, text, link)
         }
         None => write!(text, "\tlast"),
     }
@@ -71,8 +82,8 @@ fn add_link(alloc: Global, text: &mut String, line: &EvidenceLink) -> Result<(),
     ensures { OnOk result (string_bytes text.new ≡ string_bytes text.old ++ link_line line.now) }
 {
     write!(text, "link")?;
-    add_record(text, &record_of(alloc, &line.link)?)?;
-    add_next(text, &record_of_next(alloc, &line.next)?)?;
+    add_link_record(alloc, text, &line.link)?;
+    add_next(alloc, text, &line.next)?;
     writeln!(text)
 }
 

@@ -22,6 +22,14 @@ use bor_terms::{AgentName, Day};
 use std::alloc::{AllocError, Global};
 use std::collections::BTreeMap;
 
+// Adds a copy of a record.
+fn add_copy(alloc: Global, found: &mut Vec<Node>, node: &Node) -> Result<(), AllocError>
+    ensures { OnOk result (found.new.items ≡ found.old.items ++ node.now ∷ []) }
+{
+    found.push(node.copy(alloc)?)?;
+    Ok(())
+}
+
 // Adds an entity that an alias leads from to the node, unless it was found before.
 fn add(
     alloc: Global,
@@ -36,8 +44,9 @@ fn add(
     if after.contains_key(&alias) {
         return Ok(());
     }
-    found.push(alias.copy(alloc)?)?;
-    after.insert(alias, Some(node.copy(alloc)?))?;
+    add_copy(alloc, found, &alias)?;
+    let next = node.copy(alloc)?;
+    after.insert(alias, Some(next))?;
     Ok(())
 }
 
@@ -231,8 +240,8 @@ impl Ways {
         Ok(())
     }
 
-    /// Looks on until the entity is found, or nothing more is.
-    pub(crate) fn look_for<K: Keep>(
+    // Looks on until the entity is found, or nothing more is.
+    fn look_for<K: Keep>(
         &mut self,
         alloc: Global,
         keep: &mut K,
@@ -261,8 +270,8 @@ impl Ways {
         Ok(())
     }
 
-    /// The way from an entity that was found to the goal, both included.
-    pub(crate) fn way_from(&self, alloc: Global, node: &Node) -> Result<Vec<Node>, AllocError>
+    // The way from an entity that was found to the goal, both included.
+    fn way_from(&self, alloc: Global, node: &Node) -> Result<Vec<Node>, AllocError>
         ensures { IfOk result (λ way. (s : Shown) (goal : Node) → AreWaysTo s goal self.now
             → IsSome (get node_cmp self.now.after node.now)
             → IsLeastWay s node.now way.items goal) }
@@ -275,5 +284,27 @@ impl Ways {
             at = next;
         }
         Ok(way)
+    }
+
+    /// The way from an entity to the goal, both included. It looks on until the entity is found.
+    pub(crate) fn way<K: Keep>(
+        &mut self,
+        alloc: Global,
+        keep: &mut K,
+        viewer: &AgentName,
+        day: Day,
+        node: &Node,
+        goal: &Node,
+    ) -> Result<Vec<Node>, StoreFault>
+        ensures kept { Kept K.meaning keep.old keep.new }
+        ensures accounted { Accounts K.meaning keep.old keep.new (store_fault Some result) }
+        ensures answer { Promised K.meaning keep.old keep.new (λ r. IfOk result (λ way.
+            AreWaysTo (seen_at viewer.now day r) goal.now self.old
+            → Same (seen_at viewer.now day r) node.now goal.now
+            → AreWaysTo (seen_at viewer.now day r) goal.now self.new
+            × IsLeastWay (seen_at viewer.now day r) node.now way.items goal.now)) }
+    {
+        self.look_for(alloc, keep, viewer, day, node, goal)?;
+        Ok(self.way_from(alloc, node)?)
     }
 }

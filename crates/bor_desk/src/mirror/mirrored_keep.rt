@@ -104,16 +104,11 @@ impl<K: MirrorStore + Drop, N: Notice + Drop> MirroredKeep<K, N> {
         if self.most == 0 || self.mirror.is_some() {
             return;
         }
-        match self.store.whole(self.most) {
-            Ok(mirror) => {
-                self.is_up = true;
-                self.room = room_beside(&mirror, self.most);
-                self.mirror = mirror;
-            }
-            Err(_) => {
-                self.is_up = false;
-            }
-        }
+        let whole = self.store.whole(self.most);
+        self.is_up = whole.is_ok();
+        let mirror = whole.unwrap_or(None);
+        self.room = room_beside(&mirror, self.most);
+        put(&mut self.mirror, mirror);
     }
 
     // Has it noticed where there was a mirror and no longer is.
@@ -158,73 +153,107 @@ fn room_beside(mirror: &Option<ListKeep>, most: u32) -> usize
     }
 }
 
-// The mirror once the filing is added, without its file; `None` where memory is wanting, or the
-// filing has more than so many statements.
+// Puts a mirror in its place, or lets the one there go.
+fn put(place: &mut Option<ListKeep>, mirror: Option<ListKeep>)
+    ensures { place.new ≡ mirror }
+{
+    *place = mirror;
+}
+
+// Adds the filing to the mirror, without its file. `None` where there is no mirror, or it is let
+// go: memory is wanting, or the filing has more than so many statements.
 fn filed(
-    mirror: Option<ListKeep>,
+    held: &mut Option<ListKeep>,
     room: usize,
     agent: &AgentName,
     count: usize,
     key: &LodgeKey,
     due: Day,
     statements: &[Statement],
-) -> Option<ListKeep>
-    ensures bounded { IsSome result → length statements.now ≤ room }
-    ensures followed { IsFollowed mirror result (MayFile agent.now count key.now statements.now)
+) -> Option<()>
+    ensures bounded { IsSome held.new → length statements.now ≤ room }
+    ensures followed { IsFollowed held.old held.new (MayFile agent.now count key.now statements.now)
         (with_filing agent.now key.now due [] statements.now) }
 {
-    let mut mirror = mirror?;
     if statements.len() > room {
+        put(held, None);
         return None;
     }
+    let Some(mirror) = held else {
+        return None;
+    };
     match mirror.add_filing(agent, count, key, due, &[], statements) {
-        Ok(()) => Some(mirror),
-        Err(_) => None,
+        Ok(()) => Some(()),
+        Err(_) => {
+            put(held, None);
+            None
+        }
     }
 }
 
-// The mirror once the filing is withdrawn.
-fn withdrawn(mirror: Option<ListKeep>, agent: &AgentName, number: u32) -> Option<ListKeep>
-    ensures { IsFollowed mirror result (λ _. ⊤) (with_withdrawal agent.now number) }
+// Withdraws the filing in the mirror. `None` where there is none, or it is let go.
+fn withdrawn(held: &mut Option<ListKeep>, agent: &AgentName, number: u32) -> Option<()>
+    ensures { IsFollowed held.old held.new (λ _. ⊤) (with_withdrawal agent.now number) }
 {
-    let mut mirror = mirror?;
+    let Some(mirror) = held else {
+        return None;
+    };
     match mirror.withdraw(agent, number) {
-        Ok(()) => Some(mirror),
-        Err(_) => None,
+        Ok(()) => Some(()),
+        Err(_) => {
+            put(held, None);
+            None
+        }
     }
 }
 
-// The mirror once the day is set.
-fn dated(mirror: Option<ListKeep>, day: Day) -> Option<ListKeep>
-    ensures { IsFollowed mirror result (λ _. ⊤) (λ r. record r { day = day }) }
+// Sets the day in the mirror. `None` where there is none, or it is let go.
+fn dated(held: &mut Option<ListKeep>, day: Day) -> Option<()>
+    ensures { IsFollowed held.old held.new (λ _. ⊤) (λ r. record r { day = day }) }
 {
-    let mut mirror = mirror?;
+    let Some(mirror) = held else {
+        return None;
+    };
     match mirror.set_day(day) {
-        Ok(()) => Some(mirror),
-        Err(_) => None,
+        Ok(()) => Some(()),
+        Err(_) => {
+            put(held, None);
+            None
+        }
     }
 }
 
-// The mirror once the agent is added; `None` where memory is wanting.
-fn enrolled(mirror: Option<ListKeep>, agent: &AgentName, token: &Token) -> Option<ListKeep>
-    ensures { IsFollowed mirror result (MayEnrol agent.now token.now)
+// Adds the agent to the mirror. `None` where there is none, or it is let go, as memory is wanting.
+fn enrolled(held: &mut Option<ListKeep>, agent: &AgentName, token: &Token) -> Option<()>
+    ensures { IsFollowed held.old held.new (MayEnrol agent.now token.now)
         (with_agent agent.now token.now) }
 {
-    let mut mirror = mirror?;
+    let Some(mirror) = held else {
+        return None;
+    };
     match mirror.add_agent(agent, token) {
-        Ok(()) => Some(mirror),
-        Err(_) => None,
+        Ok(()) => Some(()),
+        Err(_) => {
+            put(held, None);
+            None
+        }
     }
 }
 
-// The mirror once the agent has the token; `None` where memory is wanting.
-fn renewed(mirror: Option<ListKeep>, agent: &AgentName, token: &Token) -> Option<ListKeep>
-    ensures { IsFollowed mirror result (λ _. ⊤) (with_renewal agent.now token.now) }
+// Gives the agent the token in the mirror. `None` where there is none, or it is let go, as memory
+// is wanting.
+fn renewed(held: &mut Option<ListKeep>, agent: &AgentName, token: &Token) -> Option<()>
+    ensures { IsFollowed held.old held.new (λ _. ⊤) (with_renewal agent.now token.now) }
 {
-    let mut mirror = mirror?;
+    let Some(mirror) = held else {
+        return None;
+    };
     match mirror.set_token(agent, token) {
-        Ok(()) => Some(mirror),
-        Err(_) => None,
+        Ok(()) => Some(()),
+        Err(_) => {
+            put(held, None);
+            None
+        }
     }
 }
 
@@ -437,8 +466,15 @@ impl<K: MirrorStore + Drop, N: Notice + Drop> Keep for MirroredKeep<K, N> {
         {
             Ok(()) => {
                 let was_mirrored = self.mirror.is_some();
-                let mirror = self.mirror.take();
-                self.mirror = filed(mirror, self.room, agent, count, key, due, statements);
+                filed(
+                    &mut self.mirror,
+                    self.room,
+                    agent,
+                    count,
+                    key,
+                    due,
+                    statements,
+                );
                 self.room = self.room.saturating_sub(statements.len());
                 self.notice_from(was_mirrored);
                 Ok(())
@@ -454,7 +490,7 @@ impl<K: MirrorStore + Drop, N: Notice + Drop> Keep for MirroredKeep<K, N> {
         match self.store.withdraw(agent, number) {
             Ok(()) => {
                 let was_mirrored = self.mirror.is_some();
-                self.mirror = withdrawn(self.mirror.take(), agent, number);
+                withdrawn(&mut self.mirror, agent, number);
                 self.notice_from(was_mirrored);
                 Ok(())
             }
@@ -469,7 +505,7 @@ impl<K: MirrorStore + Drop, N: Notice + Drop> Keep for MirroredKeep<K, N> {
         match self.store.set_day(day) {
             Ok(()) => {
                 let was_mirrored = self.mirror.is_some();
-                self.mirror = dated(self.mirror.take(), day);
+                dated(&mut self.mirror, day);
                 self.notice_from(was_mirrored);
                 Ok(())
             }
@@ -484,7 +520,7 @@ impl<K: MirrorStore + Drop, N: Notice + Drop> Keep for MirroredKeep<K, N> {
         match self.store.add_agent(agent, token) {
             Ok(()) => {
                 let was_mirrored = self.mirror.is_some();
-                self.mirror = enrolled(self.mirror.take(), agent, token);
+                enrolled(&mut self.mirror, agent, token);
                 self.notice_from(was_mirrored);
                 Ok(())
             }
@@ -499,7 +535,7 @@ impl<K: MirrorStore + Drop, N: Notice + Drop> Keep for MirroredKeep<K, N> {
         match self.store.set_token(agent, token) {
             Ok(()) => {
                 let was_mirrored = self.mirror.is_some();
-                self.mirror = renewed(self.mirror.take(), agent, token);
+                renewed(&mut self.mirror, agent, token);
                 self.notice_from(was_mirrored);
                 Ok(())
             }

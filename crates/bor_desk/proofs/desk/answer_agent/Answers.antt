@@ -14,3 +14,12 @@ returns-in-Evidence-clause-left g c = left_reading g.K.Keep.meaning _ _ c.args.n
 pub returns-in-Entities-clause-step : goal.returns-in-Entities-clause-step
 returns-in-Entities-clause-step g c = λ r is clean ordered.
     subst (λ (q : AgentRequest). IsAnswered (reply_of c.entities_for.result) (agent_step r c.args.name.now q).answer) (sym c.in-Entities.is) (c.entities_for.ensures.answer r is clean)
+
+pub returns-in-Entities-clause-left : goal.returns-in-Entities-clause-left
+returns-in-Entities-clause-left g c = left_reading g.K.Keep.meaning _ _ c.args.name.now _ _ c.in-Entities.is refl c.entities_for.ensures.kept (reply_of c.entities_for.result)
+
+pub returns-in-Snapshot-clause-left : goal.returns-in-Snapshot-clause-left
+returns-in-Snapshot-clause-left g c = left_reading g.K.Keep.meaning _ _ c.args.name.now _ _ c.in-Snapshot.is refl c.snapshot_for.ensures.kept (reply_of c.snapshot_for.result)
+
+pub returns-in-File-clause-left : goal.returns-in-File-clause-left
+returns-in-File-clause-left g c = left_reading g.K.Keep.meaning _ _ c.args.name.now _ _ c.in-File.is refl c.file_for.ensures.kept (reply_of c.file_for.result)

@@ -1,9 +1,11 @@
-use Rattle.std.proofs.Common.{◌<◌, ◌++◌, ◌∷◌, [], length, take, sym, ap, ◌∙◌, arith}
+use Rattle.std.proofs.Common.{◌<◌, ◌++◌, ◌∷◌, [], length, take, Some, refl, sym, ap, ◌∙◌, arith}
 use Rattle.std.proofs.lemmas.List.{take_more}
 use Rattle.bor_records.proofs.KeptLaws.{kept_then, lasts_then}
 use Rattle.bor_register.specs.Seen.{seen_at}
 use Rattle.bor_chains.specs.declared.tree.EvidenceLink.{EvidenceLink}
 use Rattle.bor_desk.proofs.OnEvidence.Mentions.{links_more}
+use Rattle.bor_register.specs.declared.fault.StoreFault.{StoreFault}
+use Rattle.bor_desk.proofs.OnOperations.Stops.{stops_later}
 use Rattle.bor_desk.proofs.evidence.seen.link_lines.Goals as goal
 
 pub loop-line-preserved : goal.loop-line-preserved
@@ -31,3 +33,8 @@ loop-line-preserved g c =
                 (take_more links at line lt ∙ ap (λ (x : EvidenceLink). take at links ++ x ∷ []) (sym c.line-item.is)) pushed.items so_far.1 one.1,
           );
     }
+
+pub returns-in_err-told-clause-accounted : goal.returns-in_err-told-clause-accounted
+returns-in_err-told-clause-accounted g c =
+    let inv = c.loop-line.invariant in
+    stops_later g.K.Keep.meaning (λ (f : StoreFault). Some f) _ _ _ c.from_residual-in_err-told.result inv.kept inv.counts inv.lasts c.in_err-told.ensures.kept.began c.from_residual-in_err-told.ensures.1 refl c.in_err-told.ensures.accounted

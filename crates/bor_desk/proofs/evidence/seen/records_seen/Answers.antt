@@ -1,7 +1,9 @@
-use Rattle.std.proofs.Common.{◌<◌, ◌∙◌, arith, length}
+use Rattle.std.proofs.Common.{◌<◌, ◌∙◌, Some, arith, length, refl}
 use Rattle.bor_records.proofs.KeptLaws.{kept_then, lasts_then}
 use Rattle.bor_register.specs.Rows.{visible}
 use Rattle.bor_desk.proofs.OnEvidence.Mentions.{IsTold, records_more, told_closed, told_open}
+use Rattle.bor_register.specs.declared.fault.StoreFault.{StoreFault}
+use Rattle.bor_desk.proofs.OnOperations.Stops.{stops_after}
 use Rattle.bor_desk.proofs.evidence.seen.records_seen.Goals as goal
 use Rattle.bor_desk.proofs.evidence.seen.records_seen.Goals.{in-Some, in_default}
 
@@ -30,3 +32,7 @@ loop-node-preserved g c =
           let is0 = (inv.kept.same clean0 r).0 is in
           records_more c.args.day (visible c.args.viewer.now r.day r.members) c.args.nodes.now c.loop-node.node-index c.node-item.result c.in_ok-row.field-0 was now lt c.node-item.is (reads.answer r is0 clean) (inv.told r is clean0) more;
     }
+
+pub returns-in_err-row-clause-accounted : goal.returns-in_err-row-clause-accounted
+returns-in_err-row-clause-accounted g c =
+    stops_after g.K.Keep.meaning (λ (f : StoreFault). Some f) _ _ _ c.from_residual-in_err-row.result c.loop-node.invariant.kept c.loop-node.invariant.counted c.from_residual-in_err-row.ensures.1 refl c.in_err-row.ensures

@@ -8,6 +8,7 @@ use Rattle.bor_desk.specs.Operations.Lodging.{told_settled}
 use Rattle.bor_desk.specs.Operations.Outcomes.{of_lodging, Refuses}
 use Rattle.bor_records.proofs.KeptLaws.{kept_then, lasts_then}
 use Rattle.bor_desk.proofs.OnOperations.Lodgings.{so_far-more, so_far-refused, live_so_far}
+use Rattle.bor_desk.proofs.OnOperations.Stops.{stops_later}
 use Rattle.bor_desk.proofs.operations.lodging.settle.Goals as goal
 
 pub returns-in_err-status-clause-answer : goal.returns-in_err-status-clause-answer
@@ -41,3 +42,8 @@ loop-i-preserved g c =
           let told = c.in_ok-status.ensures.answer r is0 clean (map (as_live c.args.due) (take c.loop-i.i ss)) inv.found in
           sym (so_far-more (live_of (filings_of c.args.agent.now r.members)) c.args.due ss c.loop-i.i (c.loop-i.i + 1) c.index-statements-i-in-loop-i.result c.index-statements-i-in-loop-i-2.result c.in_ok-status.status lt told) ∙ inv.done r is clean0;
     }
+
+pub returns-in_err-status-clause-accounted : goal.returns-in_err-status-clause-accounted
+returns-in_err-status-clause-accounted g c =
+    let inv = c.loop-i.invariant in
+    stops_later g.K.Keep.meaning of_lodging _ _ _ c.from_residual-in_err-status.result inv.kept inv.counted inv.lasts c.in_err-status.ensures.kept.began c.from_residual-in_err-status.ensures.1 refl c.in_err-status.ensures.accounted

@@ -1,9 +1,6 @@
-use Rattle.std.proofs.Common.{Option, subst}
 use Rattle.bor_register.specs.Additions.{MayEnrol, with_agent}
 use Rattle.bor_register.specs.Register.{Register}
 use Rattle.bor_register.proofs.BareChanges.{enrolled_with-bare, may_enrol-bare}
-use Rattle.bor_register.specs.Memory.Holding.{Holding}
-use Rattle.bor_desk.specs.Mirror.Following.{IsFollowed}
 use Rattle.bor_desk.proofs.OnMirror.Mirroring.{failed_both, follows, made_both, register_in}
 use Rattle.bor_desk.proofs.mirror.mirrored_keep.MirroredKeepKeep.add_agent.Goals as goal
 
@@ -11,9 +8,8 @@ pub returns-in-Ok : goal.returns-in-Ok
 returns-in-Ok g c =
     let Fits : Register → Type 0 = MayEnrol c.args.agent.now c.args.token.now in
     let change : Register → Register = with_agent c.args.agent.now c.args.token.now in
-    let followed : IsFollowed c.self.inside.mirror c.enrolled.result Fits change = subst (λ (o : Option Holding). IsFollowed o c.enrolled.result Fits change) c.take.ensures.value c.enrolled.ensures in
-    made_both g.K.Keep.meaning Fits change c.args.self.now c.self.inside.store c.add_agent.new.self (register_in c.self.inside.mirror) (register_in c.enrolled.result) c.self.view_is
-    (follows c.self.inside.mirror c.enrolled.result Fits change change followed (may_enrol-bare c.args.agent.now c.args.token.now) (enrolled_with-bare c.args.agent.now c.args.token.now))
+    made_both g.K.Keep.meaning Fits change c.args.self.now c.self.inside.store c.add_agent.new.self (register_in c.self.inside.mirror) (register_in c.enrolled.new.held) c.self.view_is
+    (follows c.self.inside.mirror c.enrolled.new.held Fits change change c.enrolled.ensures (may_enrol-bare c.args.agent.now c.args.token.now) (enrolled_with-bare c.args.agent.now c.args.token.now))
     c.in-Ok.ensures
 
 pub returns-in-Err : goal.returns-in-Err

@@ -1,21 +1,18 @@
-use Rattle.std.proofs.Common.{Option, subst}
 use Rattle.bor_records.proofs.Sure.{changes_always, sure_changes}
 use Rattle.bor_register.specs.Additions.{with_renewal}
 use Rattle.bor_register.specs.Register.{Register}
 use Rattle.bor_register.proofs.BareChanges.{renewed-bare}
-use Rattle.bor_register.specs.Memory.Holding.{Holding}
-use Rattle.bor_desk.specs.Mirror.Following.{IsFollowed, mirrored}
+use Rattle.bor_desk.specs.Mirror.Following.{mirrored}
 use Rattle.bor_desk.proofs.OnMirror.Mirroring.{failed_both, follows, made_both, register_in}
 use Rattle.bor_desk.proofs.mirror.mirrored_keep.MirroredKeepKeep.set_token.Goals as goal
 
 pub returns-in-Ok : goal.returns-in-Ok
 returns-in-Ok g c =
     let change : Register → Register = with_renewal c.args.agent.now c.args.token.now in
-    let followed : IsFollowed c.self.inside.mirror c.renewed.result (λ r. Unit {0}) change = subst (λ (o : Option Holding). IsFollowed o c.renewed.result (λ r. Unit {0}) change) c.take.ensures.value c.renewed.ensures in
     sure_changes (mirrored g.K.Keep.meaning)
     {Fits = λ r. Unit {0}} (λ r shown clean. tt)
-    (made_both g.K.Keep.meaning (λ r. Unit {0}) change c.args.self.now c.self.inside.store c.set_token.new.self (register_in c.self.inside.mirror) (register_in c.renewed.result) c.self.view_is
-    (follows c.self.inside.mirror c.renewed.result (λ r. Unit {0}) change change followed (λ r fits. tt) (renewed-bare c.args.agent.now c.args.token.now))
+    (made_both g.K.Keep.meaning (λ r. Unit {0}) change c.args.self.now c.self.inside.store c.set_token.new.self (register_in c.self.inside.mirror) (register_in c.renewed.new.held) c.self.view_is
+    (follows c.self.inside.mirror c.renewed.new.held (λ r. Unit {0}) change change c.renewed.ensures (λ r fits. tt) (renewed-bare c.args.agent.now c.args.token.now))
     (changes_always g.K.Keep.meaning c.in-Ok.ensures))
 
 pub returns-in-Err : goal.returns-in-Err
