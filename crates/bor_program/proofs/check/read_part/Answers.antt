@@ -1,7 +1,7 @@
-use Rattle.std.proofs.Common.{rules, ◌≡◌, ◌∙◌, ap, sym, subst, ◌<◌, ◌≤◌, ◌+◌, ◌++◌, length, length-append, take, arith}
-use Rattle.std.specs.Io.KnownBytes.{Consumes}
+use Rattle.std.proofs.Common.{rules, ◌≡◌, ◌∙◌, ap, sym, subst, ◌<◌, ◌≤◌, ◌+◌, [], ◌++◌, append-nil, length, length-append, take, arith}
+use Rattle.std.specs.Io.KnownBytes.{Consumes, IsAtEnd}
 use Rattle.std.proofs.lemmas.List.{length-take-le, take-append-le}
-use Rattle.std.proofs.KnownBytes.{Consumes-trans}
+use Rattle.std.proofs.KnownBytes.{Consumes-kept, Consumes-trans}
 use Rattle.bor_program.proofs.KnownBytes.{IsPartOf, read_nothing, read_to_end, read_to_limit, took_more}
 use Rattle.bor_program.proofs.check.read_part.Given.{Over}
 use Rattle.bor_program.proofs.check.read_part.Goals as goal
@@ -12,11 +12,13 @@ at_limit g c =
     let above : 1_048_576 < length c.turns.bytes.items = search rules in
     read_to_limit _ _ _ above c.turns.invariant.0 c.turns.invariant.1
 
-at_end : (g : Over) (c : In-Ok-eq0 g) → IsPartOf (g.I.Read.remaining c.args.input.now) (g.I.Read.remaining c.read.new.self) c.turns.bytes.items
-at_end g c =
+found_end : (g : Over) (c : In-Ok-eq0 g) → Consumes (g.I.Read.remaining c.turns.input) (g.I.Read.remaining c.read.new.self) [] × IsAtEnd (g.I.Read.remaining c.read.new.self)
+found_end g c =
     let room : 0 < length c.read.new.buf = search rules in
-    let end = read_nothing _ _ c.read.result c.in-Ok-eq0.field-0 c.read.new.buf c.read.ensures.bytes c.in-Ok-eq0.is c.in-Ok-eq0.field-0-test room in
-    read_to_end _ _ _ _ c.turns.invariant.0 c.turns.invariant.1 end.0 end.1
+    read_nothing _ _ c.read.result c.in-Ok-eq0.field-0 c.read.new.buf c.read.ensures.bytes c.in-Ok-eq0.is c.in-Ok-eq0.field-0-test room
+
+at_end : (g : Over) (c : In-Ok-eq0 g) → IsPartOf (g.I.Read.remaining c.args.input.now) (g.I.Read.remaining c.read.new.self) c.turns.bytes.items
+at_end g c = read_to_end _ _ _ _ c.turns.invariant.0 c.turns.invariant.1 (found_end g c).0 (found_end g c).1
 
 pub returns-then-room-eq0-clause-read : goal.returns-then-room-eq0-clause-read
 returns-then-room-eq0-clause-read g c = (at_limit g c).is_part
@@ -51,3 +53,16 @@ returns-in_err-extend_from_slice-in-Ok-clause-at_most g c =
     let within : length (c.turns.bytes.items ++ take c.in-Ok.count c.read.new.buf) ≤ 1_048_577 =
     omega (arith, length-append c.turns.bytes.items (take c.in-Ok.count c.read.new.buf)) in
     took_more _ _ _ c.turns.bytes.items (take c.in-Ok.count c.read.new.buf) within c.turns.invariant.1 c.in-Ok.ensures.bytes.0
+
+pub returns-then-room-eq0-clause-at_most : goal.returns-then-room-eq0-clause-at_most
+returns-then-room-eq0-clause-at_most g c = (c.turns.bytes.items, c.turns.invariant.0, c.turns.invariant.1)
+
+pub returns-in-Ok-eq0-clause-at_most : goal.returns-in-Ok-eq0-clause-at_most
+returns-in-Ok-eq0-clause-at_most g c =
+    took_more _ _ _ c.turns.bytes.items [] (rw (append-nil c.turns.bytes.items) c.turns.invariant.0) c.turns.invariant.1 (found_end g c).0
+
+pub returns-in-Err-2-clause-at_most : goal.returns-in-Err-2-clause-at_most
+returns-in-Err-2-clause-at_most g c = (c.turns.bytes.items, c.turns.invariant.0, Consumes-kept _ _ _ _ c.turns.invariant.1 c.in-Err-2.ensures.bytes)
+
+pub returns-clause-at_most : goal.returns-clause-at_most
+returns-clause-at_most g c = (c.turns.bytes.items, c.turns.invariant.0, c.turns.invariant.1)
