@@ -5,6 +5,7 @@ ghost use Rattle.std.specs.Io.KnownBytes.{Appends};
 ghost use Rattle.std.specs.IoError.{error_kind};
 ghost use Rattle.bor_program.specs.Failures.{IsReadingOf, IsWantOfMemory, failure_line, failure_of, texts_joined};
 ghost use Rattle.bor_program.specs.Streams.{AppendsPart};
+ghost use Rattle.bor_program.specs.declared.failure.Failure.TheVariants.{OtherVersion};
 
 use crate::output::write_part;
 use crate::status::Status;
@@ -62,36 +63,45 @@ impl<'a> Failure<'a> {
         ensures line { AppendsPart (E.contents errors.old) (E.contents errors.new)
             (failure_line self.entry) }
     {
-        let mut digits = Buffer::new();
         let _ = match self {
             Failure::Unreadable(source) => {
-                write_texts(errors, &["bor: cannot read ", source.name(), "\n"])
+                write_named(errors, "bor: cannot read ", source.name(), "\n")
             }
-            Failure::NoRegister(path) => write_texts(errors, &["bor: no register in ", path, "\n"]),
-            Failure::OtherVersion(path, version) => {
-                let version = digits.format(version);
-                write_texts(
-                    errors,
-                    &["bor: register of version ", version, " in ", path, "\n"],
-                )
-            }
+            Failure::NoRegister(path) => write_named(errors, "bor: no register in ", path, "\n"),
+            Failure::OtherVersion(path, version) => write_version(errors, path, version),
             Failure::Taken(path) => {
-                write_texts(
-                    errors,
-                    &["bor: ", path, " is not free for a register", "\n"],
-                )
+                write_named(errors, "bor: ", path, " is not free for a register\n")
             }
             Failure::Registered(path) => {
-                write_texts(errors, &["bor: a register is in ", path, " already", "\n"])
+                write_named(errors, "bor: a register is in ", path, " already\n")
             }
-            Failure::NoToken(name) => write_texts(errors, &["bor: no token in ", name, "\n"]),
-            Failure::Memory => write_texts(errors, &["bor: out of memory\n"]),
-            Failure::Store => write_texts(errors, &["bor: store failed\n"]),
-            Failure::Unlistening => write_texts(errors, &["bor: cannot listen\n"]),
+            Failure::NoToken(name) => write_named(errors, "bor: no token in ", name, "\n"),
+            Failure::Memory => write_part(errors, "bor: out of memory\n".as_bytes()),
+            Failure::Store => write_part(errors, "bor: store failed\n".as_bytes()),
+            Failure::Unlistening => write_part(errors, "bor: cannot listen\n".as_bytes()),
             Failure::Unwritable => true,
         };
         Status::Failed
     }
+}
+
+// Writes that the register in the file of this name is of another version.
+fn write_version<E: Write>(errors: &mut E, path: &str, version: i64) -> bool
+    ensures { AppendsPart (E.contents errors.old) (E.contents errors.new)
+        (failure_line (OtherVersion path.entry version)) }
+{
+    let mut digits = Buffer::new();
+    let version = digits.format(version);
+    let texts = ["bor: register of version ", version, " in ", path, "\n"];
+    write_texts(errors, &texts)
+}
+
+// Writes a name with the texts before and after it.
+fn write_named<E: Write>(errors: &mut E, before: &str, name: &str, after: &str) -> bool
+    ensures { AppendsPart (E.contents errors.old) (E.contents errors.new)
+        (before.now ++ (name.now ++ after.now)) }
+{
+    write_texts(errors, &[before, name, after])
 }
 
 // Writes the texts as far as they can be written, and tells whether all were.
