@@ -24,7 +24,7 @@ use Rattle.bor_wire.specs.Spelling.Parts as part
 use Rattle.bor_http.specs.Incoming.Refusals.{refuse}
 use Rattle.bor_wire.specs.Spelling.Refusals.{asks, lines_of_method, lines_of_names, lines_of_message}
 use Rattle.bor_wire.specs.Spelling.Spell.{request_of, asked, spell}
-use Rattle.bor_wire.specs.Spelling.Steps.{or_refuse, named, identifier_by_steps, node_by_steps, lodging_by_steps, snapshot_by_steps, enrolment_by_steps, renewal_by_steps, request_by_steps, spell_by_steps}
+use Rattle.bor_wire.specs.Spelling.Steps.{or_refuse, named, entities_by_steps, entity_by_steps, identifier_by_steps, node_by_steps, lodging_by_steps, snapshot_by_steps, enrolment_by_steps, renewal_by_steps, request_by_steps, spell_by_steps}
 
 abbrev asking : List ℕ → Request → Asked
 asking token request = record { token = token; request = request }
@@ -56,10 +56,13 @@ two_and_one : {A B C Y X : Type 0} (n m k : Name) (a : Option A) (b : Option B) 
 two_and_one n m k (Some a) (Some b) (Some c) any other third g f = refl
 two_and_one n m k a b c any other third g f = refl
 
+abbrev both : {A B : Type 0} → A → B → A × B
+both a b = (a, b)
+
 -- three names that make one value, and a fourth
 four_names : {A B C D Y X : Type 0} (n m k l : Name) (a : Option A) (b : Option B) (c : Option C) (d : Option D)
     (any : A) (other : B) (third : C) (fourth : D) (g : A → B → C → Y) (f : Y → D → X)
-    → ((named n a >>= λ x. named m b >>= λ y. named k c >>= λ z. Ok (g x y z)) >>= λ v. named l d >>= λ w. Ok (f v w))
+    → (((named n a >>= λ x. named m b >>= λ y. named k c >>= λ z. Ok (g x y z)) >>= λ v. named l d >>= λ w. Ok (both v w)) >>= λ e. Ok (f e.0 e.1))
     ≡ outcome (table (asks n a ∷ asks m b ∷ asks k c ∷ asks l d ∷ [])) (f (g (unwrap_or a any) (unwrap_or b other) (unwrap_or c third)) (unwrap_or d fourth))
 four_names n m k l (Some a) (Some b) (Some c) (Some d) any other third fourth g f = refl
 four_names n m k l a b c d any other third fourth g f = refl
@@ -71,7 +74,7 @@ abbrev identifier : List ℕ → List ℕ → Identifier
 identifier scheme id = record { scheme = scheme; id = id }
 
 request_stepwise : (r : Route) (m : Message) → request_by_steps r m ≡ outcome (lines_of_names (Some r) m) (request_of (Some r) m)
-unfolding request_by_steps node_by_steps identifier_by_steps lodging_by_steps snapshot_by_steps enrolment_by_steps renewal_by_steps
+unfolding request_by_steps node_by_steps entity_by_steps entities_by_steps identifier_by_steps lodging_by_steps snapshot_by_steps enrolment_by_steps renewal_by_steps
 request_stepwise routes.Lodge m = two_names names.Key names.Due (part.key m) (part.due m) [] (pos 0) (λ key due. of.Agent (ask.Lodge key due m.body))
 request_stepwise routes.Withdraw m = one_name names.Key (part.key m) [] (λ key. of.Agent (ask.Withdraw key))
 request_stepwise routes.File m = one_name names.Key (part.key m) [] (λ key. of.Agent (ask.File key))

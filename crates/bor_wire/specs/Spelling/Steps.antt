@@ -1,6 +1,6 @@
 -- The request that a message spells, one part looked at after the other: each refuses, or the next
 -- is looked at.
-use Rattle.std.specs.Prelude.{◌≡◌, ℕ, List, Option, Some, None, Result, Ok, Err, ⊤}
+use Rattle.std.specs.Prelude.{◌≡◌, ℕ, ℤ, List, Option, Some, None, Result, Ok, Err, ⊤}
 use Rattle.bor_terms.specs.Day.{day_of}
 use Rattle.bor_terms.specs.Texts.{is_agent_name, is_ident, is_token}
 use Rattle.bods_read.specs.declared.details.Identifier.{Identifier}
@@ -75,6 +75,20 @@ snapshot_by_steps pairs = do
   date ← named names.Date (part.at_most_once day_of names.Date pairs)
   Ok (of.Agent (ask.Snapshot agent declaration date))
 
+-- the entity that a query names, and the date, where it has one
+unfoldable pub entity_by_steps : List TextPair → Result (Node × Option ℤ) Refusal
+entity_by_steps pairs = do
+  node ← node_by_steps pairs
+  date ← named names.Date (part.at_most_once day_of names.Date pairs)
+  Ok (node, date)
+
+-- the entities that a query asks for
+unfoldable pub entities_by_steps : List TextPair → Result Request Refusal
+entities_by_steps pairs = do
+  identifier ← identifier_by_steps pairs
+  date ← named names.Date (part.at_most_once day_of names.Date pairs)
+  Ok (of.Agent (ask.Entities identifier date))
+
 -- the enrolment that a query and a body ask for
 unfoldable pub enrolment_by_steps : List TextPair → List ℕ → Result Request Refusal
 enrolment_by_steps pairs body = do
@@ -101,17 +115,12 @@ request_by_steps routes.File m = do
 request_by_steps routes.Published m = Ok (of.Agent ask.Published)
 request_by_steps routes.Snapshot m = snapshot_by_steps (part.query m)
 request_by_steps routes.Chains m = do
-  node ← node_by_steps (part.query m)
-  date ← named names.Date (part.date_or_none m)
-  Ok (of.Agent (ask.Chains node date))
+  entity ← entity_by_steps (part.query m)
+  Ok (of.Agent (ask.Chains entity.0 entity.1))
 request_by_steps routes.Evidence m = do
-  node ← node_by_steps (part.query m)
-  date ← named names.Date (part.date_or_none m)
-  Ok (of.Agent (ask.Evidence node date))
-request_by_steps routes.Entities m = do
-  identifier ← identifier_by_steps (part.query m)
-  date ← named names.Date (part.date_or_none m)
-  Ok (of.Agent (ask.Entities identifier date))
+  entity ← entity_by_steps (part.query m)
+  Ok (of.Agent (ask.Evidence entity.0 entity.1))
+request_by_steps routes.Entities m = entities_by_steps (part.query m)
 request_by_steps routes.Day m = do
   date ← named names.Date (part.date m)
   Ok (of.Registrar (office.Day date))

@@ -4,7 +4,7 @@ ghost use Rattle.bor_http.specs.Incoming.Reading.{IsReadAs};
 ghost use Rattle.bor_wire.specs.Spelling.Spell.{SpellsAs, asked_view, spell};
 ghost use Rattle.bor_wire.specs.Spelling.Parts.{path_text, query};
 ghost use Rattle.bor_wire.specs.Spelling.Query.{pair_texts};
-ghost use Rattle.bor_wire.specs.Spelling.Steps.{FindsStated, enrolment_by_steps, identifier_by_steps, lodging_by_steps, node_by_steps, renewal_by_steps, request_by_steps, snapshot_by_steps};
+ghost use Rattle.bor_wire.specs.Spelling.Steps.{FindsStated, enrolment_by_steps, entities_by_steps, entity_by_steps, identifier_by_steps, lodging_by_steps, node_by_steps, renewal_by_steps, request_by_steps, snapshot_by_steps};
 
 use crate::spelling::query::{
     QueryPair, agent_named, day_if_named, day_named, ident_named, query_pairs, text_named,
@@ -16,7 +16,7 @@ use bor_chains::Node;
 use bor_desk::{AgentRequest, RegistrarRequest, Request};
 use bor_http::incoming::{Name, RawRequest, Refusal, WireFault, split_at_first};
 use bor_http::routes::{Paths, Route, route_at};
-use bor_terms::{Listed, Token};
+use bor_terms::{Day, Listed, Token};
 use std::alloc::Global;
 
 /// A request, and the token of whoever asks.
@@ -80,6 +80,29 @@ fn snapshot_for(alloc: Global, pairs: &[QueryPair<'_>]) -> Result<Request, WireF
     }))
 }
 
+// The entity that a query names, and the date, where it has one.
+#[tactic(auto, unfolding(crate::specs::Spelling::Steps::entity_by_steps))]
+fn entity_named(
+    alloc: Global,
+    pairs: &[QueryPair<'_>],
+) -> Result<(Node, Option<Day>), WireFault>
+    ensures { FindsStated (λ found. found) result (entity_by_steps (pair_texts pairs.now)) }
+{
+    let entity = node_named(alloc, pairs)?;
+    let date = day_if_named(pairs, Name::Date)?;
+    Ok((entity, date))
+}
+
+#[tactic(auto, unfolding(crate::specs::Spelling::Steps::entities_by_steps))]
+fn entities_for(alloc: Global, pairs: &[QueryPair<'_>]) -> Result<Request, WireFault>
+    ensures { FindsStated (λ request. request) result (entities_by_steps (pair_texts pairs.now)) }
+{
+    Ok(Request::Agent(AgentRequest::Entities {
+        identifier: identifier_named(alloc, pairs)?,
+        date: day_if_named(pairs, Name::Date)?,
+    }))
+}
+
 #[tactic(auto, unfolding(crate::specs::Spelling::Steps::enrolment_by_steps))]
 fn enrolment_for(alloc: Global, pairs: &[QueryPair<'_>], body: &[u8]) -> Result<Request, WireFault>
     ensures { FindsStated (λ request. request) result
@@ -125,18 +148,15 @@ fn request_with(
         })),
         Route::Published => Ok(Request::Agent(AgentRequest::Published)),
         Route::Snapshot => snapshot_for(alloc, pairs),
-        Route::Chains => Ok(Request::Agent(AgentRequest::Chains {
-            entity: node_named(alloc, pairs)?,
-            date: day_if_named(pairs, Name::Date)?,
-        })),
-        Route::Evidence => Ok(Request::Agent(AgentRequest::Evidence {
-            entity: node_named(alloc, pairs)?,
-            date: day_if_named(pairs, Name::Date)?,
-        })),
-        Route::Entities => Ok(Request::Agent(AgentRequest::Entities {
-            identifier: identifier_named(alloc, pairs)?,
-            date: day_if_named(pairs, Name::Date)?,
-        })),
+        Route::Chains => {
+            let (entity, date) = entity_named(alloc, pairs)?;
+            Ok(Request::Agent(AgentRequest::Chains { entity, date }))
+        }
+        Route::Evidence => {
+            let (entity, date) = entity_named(alloc, pairs)?;
+            Ok(Request::Agent(AgentRequest::Evidence { entity, date }))
+        }
+        Route::Entities => entities_for(alloc, pairs),
         Route::Day => Ok(Request::Registrar(RegistrarRequest::Day {
             date: day_named(pairs, Name::Date)?,
         })),
