@@ -1,8 +1,9 @@
 //! The reply to an input, and for whom it is.
 
-ghost use Rattle.std.specs.Prelude.{◌≡◌, ◌≢◌, ◌≤◌, ℕ, List, [], Ok, IfSome, vec_capacity};
+ghost use Rattle.std.specs.Prelude.{◌≡◌, ◌≢◌, ◌≤◌, ℕ, List, [], true, false, Ok, IfSome, vec_capacity};
 ghost use Rattle.bor_records.specs.Promises.{Leaves, Promised};
 ghost use Rattle.bor_register.specs.Register.{caller_of};
+ghost use Rattle.bor_desk.specs.Laws.{is_long};
 ghost use Rattle.bor_desk.specs.Outcomes.{IsOrderedFor, agent_of};
 ghost use Rattle.bor_wire.specs.Spelling.Spell.{SpellsAs, asked_view};
 ghost use Rattle.bor_wire.specs.Rendering.Limits.{reserved};
@@ -69,22 +70,42 @@ fn asked<K: Keep>(
     }
 }
 
+// A long reply of the desk in bytes.
+fn long_rendered(alloc: Global, reply: DeskReply) -> Reply
+    requires long { is_long reply ≡ true }
+    requires status { desk_status reply ≢ 503 }
+    ensures { IsRendered result reply }
+{
+    let status = desk_status(&reply).as_u16();
+    match render_owned(alloc, reply) {
+        Ok(bytes) => Reply::full(status, bytes),
+        Err(_) => Reply::unavailable(),
+    }
+}
+
+// A short reply of the desk in bytes, into room that was reserved.
+fn short_rendered(mut out: Vec<u8>, reply: &DeskReply) -> Reply
+    requires room { reserved ≤ vec_capacity out }
+    requires empty { out.items ≡ [] }
+    requires short { is_long reply.now ≡ false }
+    requires status { desk_status reply.now ≢ 503 }
+    ensures { IsRendered result reply.now }
+{
+    render_short(&mut out, reply);
+    Reply::full(desk_status(reply).as_u16(), out)
+}
+
 // The desk's reply in bytes, into room that was reserved for a short one.
-fn rendered(alloc: Global, mut out: Vec<u8>, reply: DeskReply) -> Reply
+fn rendered(alloc: Global, out: Vec<u8>, reply: DeskReply) -> Reply
     requires room { reserved ≤ vec_capacity out }
     requires empty { out.items ≡ [] }
     requires status { desk_status reply ≢ 503 }
     ensures { IsRendered result reply }
 {
-    let status = desk_status(&reply).as_u16();
     if is_long(&reply) {
-        match render_owned(alloc, reply) {
-            Ok(bytes) => Reply::full(status, bytes),
-            Err(_) => Reply::unavailable(),
-        }
+        long_rendered(alloc, reply)
     } else {
-        render_short(&mut out, &reply);
-        Reply::full(status, out)
+        short_rendered(out, &reply)
     }
 }
 

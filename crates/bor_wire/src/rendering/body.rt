@@ -9,7 +9,7 @@ ghost use Rattle.bor_wire.specs.Rendering.Parts.{WritesBehind, data_tokens};
 use crate::rendering::head::HEAD_ROOM;
 use crate::rendering::reply::RESERVED;
 use crate::rendering::short::put_body;
-use crate::rendering::shown::{Shown, write_array, write_day, write_text};
+use crate::rendering::shown::{Shown, write_array, write_date, write_items, write_text};
 use bods_read::Identifier;
 use bor_chains::{Node, PersonLine};
 use bor_desk::operations::AgentLine;
@@ -32,10 +32,8 @@ fn write_snapshot(out: &mut Writer, date: Day, records: &[Entry]) -> Result<(), 
     ensures { WritesBehind result out.old out.new (data_tokens (snapshot_data date records.now)) }
 {
     out.begin_object()?;
-    out.key("date")?;
-    write_day(out, date)?;
-    out.key("records")?;
-    write_array(out, records)?;
+    write_date(out, "date", date)?;
+    write_items(out, "records", records)?;
     out.end_object()
 }
 
@@ -59,11 +57,9 @@ fn write_chains(
 {
     out.begin_object()?;
     write_text(out, "agent", entity.agent.as_str())?;
-    out.key("date")?;
-    write_day(out, date)?;
+    write_date(out, "date", date)?;
     write_text(out, "declaration", entity.declaration.as_str())?;
-    out.key("persons")?;
-    write_array(out, persons)?;
+    write_items(out, "persons", persons)?;
     write_text(out, "record", entity.rec.as_str())?;
     out.end_object()
 }
@@ -93,16 +89,12 @@ fn write_evidence(
 {
     out.begin_object()?;
     write_text(out, "agent", entity.agent.as_str())?;
-    out.key("date")?;
-    write_day(out, date)?;
+    write_date(out, "date", date)?;
     write_text(out, "declaration", entity.declaration.as_str())?;
-    out.key("links")?;
-    write_array(out, evidence.links.as_slice())?;
-    out.key("persons")?;
-    write_array(out, evidence.persons.as_slice())?;
+    write_items(out, "links", evidence.links.as_slice())?;
+    write_items(out, "persons", evidence.persons.as_slice())?;
     write_text(out, "record", entity.rec.as_str())?;
-    out.key("records")?;
-    write_array(out, evidence.records.as_slice())?;
+    write_items(out, "records", evidence.records.as_slice())?;
     out.end_object()
 }
 
@@ -130,10 +122,8 @@ fn write_entities(
         (data_tokens (entities_data identifier.now date records.now)) }
 {
     out.begin_object()?;
-    out.key("date")?;
-    write_day(out, date)?;
-    out.key("entities")?;
-    write_array(out, records)?;
+    write_date(out, "date", date)?;
+    write_items(out, "entities", records)?;
     write_text(out, "id", identifier.id.as_str())?;
     write_text(out, "scheme", identifier.scheme.as_str())?;
     out.end_object()
@@ -157,10 +147,8 @@ fn write_register(out: &mut Writer, agents: &[AgentLine], day: Day) -> Result<()
     ensures { WritesBehind result out.old out.new (data_tokens (register_data agents.now day)) }
 {
     out.begin_object()?;
-    out.key("agents")?;
-    write_array(out, agents)?;
-    out.key("day")?;
-    write_day(out, day)?;
+    write_items(out, "agents", agents)?;
+    write_date(out, "day", day)?;
     out.end_object()
 }
 

@@ -2,14 +2,24 @@
 
 ghost use Rattle.std.specs.Prelude.{◌≡◌};
 ghost use Rattle.bor_wire.specs.Rendering.Values.{maybe_data, key_data, person_evidence_data, link_evidence_data, record_evidence_data};
-ghost use Rattle.bor_wire.specs.Rendering.Parts.{WritesBehind, data_tokens};
+ghost use Rattle.bor_wire.specs.Rendering.Parts.{WritesBehind, data_tokens, declaration_tokens};
 
-use crate::rendering::records::write_details;
-use crate::rendering::shown::{Shown, write_array, write_day, write_maybe, write_text};
+use crate::rendering::records::{write_details, write_labels};
+use crate::rendering::shown::{
+    Shown, write_date, write_items, write_number, write_text, write_text_or_null,
+};
 use bor_chains::Node;
 use bor_desk::{LinkEvidence, PersonEvidence, RecordEvidence};
 use json::Writer;
 use std::alloc::AllocError;
+
+/// Writes the agent and the declaration of a record.
+pub(crate) fn write_declaration(out: &mut Writer, node: &Node) -> Result<(), AllocError>
+    ensures { WritesBehind result out.old out.new (declaration_tokens node.now) }
+{
+    write_text(out, "agent", node.agent.as_str())?;
+    write_text(out, "declaration", node.declaration.as_str())
+}
 
 /// A record, by its key.
 impl Shown for Node {
@@ -17,8 +27,7 @@ impl Shown for Node {
 
     fn write(&self, out: &mut Writer) -> Result<(), AllocError> {
         out.begin_object()?;
-        write_text(out, "agent", self.agent.as_str())?;
-        write_text(out, "declaration", self.declaration.as_str())?;
+        write_declaration(out, self)?;
         write_text(out, "record", self.rec.as_str())?;
         out.end_object()
     }
@@ -30,14 +39,11 @@ impl Shown for PersonEvidence {
     fn write(&self, out: &mut Writer) -> Result<(), AllocError> {
         let node = &self.node;
         out.begin_object()?;
-        write_text(out, "agent", node.agent.as_str())?;
-        write_text(out, "declaration", node.declaration.as_str())?;
+        write_declaration(out, node)?;
         out.key("first")?;
         self.first.write(out)?;
-        out.key("links")?;
-        out.u64(self.links)?;
-        out.key("name")?;
-        write_maybe(out, &self.info.name)?;
+        write_number(out, "links", self.links)?;
+        write_text_or_null(out, "name", &self.info.name)?;
         write_text(out, "record", node.rec.as_str())?;
         out.end_object()
     }
@@ -59,13 +65,11 @@ impl Shown for LinkEvidence {
     fn write(&self, out: &mut Writer) -> Result<(), AllocError> {
         let node = &self.node;
         out.begin_object()?;
-        write_text(out, "agent", node.agent.as_str())?;
-        write_text(out, "declaration", node.declaration.as_str())?;
+        write_declaration(out, node)?;
         out.key("next")?;
         write_next(out, &self.next)?;
         write_text(out, "record", node.rec.as_str())?;
-        out.key("same")?;
-        write_array(out, self.same.as_slice())?;
+        write_items(out, "same", self.same.as_slice())?;
         out.end_object()
     }
 }
@@ -77,15 +81,11 @@ impl Shown for RecordEvidence {
         let statement = &self.entry.statement;
         out.begin_object()?;
         write_text(out, "agent", self.agent.as_str())?;
-        out.key("date")?;
-        write_day(out, statement.day)?;
+        write_date(out, "date", statement.day)?;
         write_text(out, "declaration", statement.declaration.as_str())?;
         out.key("details")?;
         write_details(out, &statement.details)?;
-        write_text(out, "id", statement.id.as_str())?;
-        write_text(out, "record", statement.rec.as_str())?;
-        write_text(out, "status", self.entry.status.as_str())?;
-        write_text(out, "type", statement.record_type().as_str())?;
+        write_labels(out, &self.entry)?;
         out.end_object()
     }
 }

@@ -2,7 +2,7 @@
 
 ghost use Rattle.bor_wire.specs.Rendering.Values.{agent_line_data, line_data, statement_data, outward_data};
 
-use crate::rendering::shown::{Shown, write_array, write_day, write_text};
+use crate::rendering::shown::{Shown, write_date, write_items, write_number, write_text};
 use bods_read::Statement;
 use bor_desk::operations::{AgentLine, FilingLine, Outward};
 use bor_desk::settled_word;
@@ -14,10 +14,8 @@ impl Shown for FilingLine {
 
     fn write(&self, out: &mut Writer) -> Result<(), AllocError> {
         out.begin_object()?;
-        out.key("due")?;
-        write_day(out, self.due)?;
-        out.key("filing")?;
-        out.u64(u64::from(self.number))?;
+        write_date(out, "due", self.due)?;
+        write_number(out, "filing", u64::from(self.number))?;
         write_text(out, "key", self.key.as_str())?;
         write_text(out, "state", self.state.as_str())?;
         out.end_object()
@@ -29,8 +27,7 @@ impl Shown for Statement {
 
     fn write(&self, out: &mut Writer) -> Result<(), AllocError> {
         out.begin_object()?;
-        out.key("date")?;
-        write_day(out, self.day)?;
+        write_date(out, "date", self.day)?;
         write_text(out, "declaration", self.declaration.as_str())?;
         write_text(out, "id", self.id.as_str())?;
         write_text(out, "record", self.rec.as_str())?;
@@ -46,10 +43,8 @@ impl Shown for Outward {
     fn write(&self, out: &mut Writer) -> Result<(), AllocError> {
         out.begin_object()?;
         write_text(out, "agent", self.agent.as_str())?;
-        out.key("due")?;
-        write_day(out, self.due)?;
-        out.key("statements")?;
-        write_array(out, self.statements.as_slice())?;
+        write_date(out, "due", self.due)?;
+        write_items(out, "statements", self.statements.as_slice())?;
         out.end_object()
     }
 }

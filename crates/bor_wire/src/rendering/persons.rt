@@ -2,7 +2,8 @@
 
 ghost use Rattle.bor_wire.specs.Rendering.Values.{person_data};
 
-use crate::rendering::shown::{Shown, write_maybe, write_text};
+use crate::rendering::evidence::write_declaration;
+use crate::rendering::shown::{Shown, write_number, write_text, write_text_or_null};
 use bor_chains::PersonLine;
 use json::Writer;
 use std::alloc::AllocError;
@@ -13,12 +14,9 @@ impl Shown for PersonLine {
     fn write(&self, out: &mut Writer) -> Result<(), AllocError> {
         let node = &self.node;
         out.begin_object()?;
-        write_text(out, "agent", node.agent.as_str())?;
-        write_text(out, "declaration", node.declaration.as_str())?;
-        out.key("links")?;
-        out.u64(self.links)?;
-        out.key("name")?;
-        write_maybe(out, &self.info.name)?;
+        write_declaration(out, node)?;
+        write_number(out, "links", self.links)?;
+        write_text_or_null(out, "name", &self.info.name)?;
         write_text(out, "record", node.rec.as_str())?;
         out.end_object()
     }

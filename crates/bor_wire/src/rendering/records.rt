@@ -1,9 +1,14 @@
 //! Open records, as replies show them.
 
+ghost use Rattle.std.specs.Prelude.{◌∷◌};
+ghost use Rattle.json.specs.Token.{key};
+ghost use Rattle.serde_json.specs.Data.{boolean};
 ghost use Rattle.bor_wire.specs.Rendering.Values.{maybe_data, identifier_data, share_data, interest_data, details_data, entry_data};
-ghost use Rattle.bor_wire.specs.Rendering.Parts.{WritesBehind, data_tokens};
+ghost use Rattle.bor_wire.specs.Rendering.Parts.{WritesBehind, data_tokens, label_tokens};
 
-use crate::rendering::shown::{Shown, write_array, write_day, write_maybe, write_text};
+use crate::rendering::shown::{
+    Shown, write_date, write_items, write_number, write_text, write_text_or_null,
+};
 use bods_read::{Details, EntityKind, FreeText, Identifier, Interest, PersonKind};
 use bor_records::Entry;
 use bor_terms::{Ident, Span};
@@ -21,19 +26,23 @@ impl Shown for Identifier {
     }
 }
 
+// Writes a member that is true or false.
+fn write_flag(out: &mut Writer, name: &str, value: bool) -> Result<(), AllocError>
+    ensures { WritesBehind result out.old out.new (key name.now ∷ data_tokens (boolean value)) }
+{
+    out.key(name)?;
+    out.boolean(value)
+}
+
 // Writes a share in percent.
 fn write_span(out: &mut Writer, share: Span) -> Result<(), AllocError>
     ensures { WritesBehind result out.old out.new (data_tokens (share_data share)) }
 {
     out.begin_object()?;
-    out.key("high")?;
-    out.u64(u64::from(share.high()))?;
-    out.key("highOpen")?;
-    out.boolean(share.high_is_open())?;
-    out.key("low")?;
-    out.u64(u64::from(share.low()))?;
-    out.key("lowOpen")?;
-    out.boolean(share.low_is_open())?;
+    write_number(out, "high", u64::from(share.high()))?;
+    write_flag(out, "highOpen", share.high_is_open())?;
+    write_number(out, "low", u64::from(share.low()))?;
+    write_flag(out, "lowOpen", share.low_is_open())?;
     out.end_object()
 }
 
@@ -70,11 +79,9 @@ fn write_entity(
         (data_tokens (details_data (Details.Entity kind name.now identifiers.now))) }
 {
     out.begin_object()?;
-    out.key("identifiers")?;
-    write_array(out, identifiers)?;
+    write_items(out, "identifiers", identifiers)?;
     write_text(out, "kind", kind.as_str())?;
-    out.key("name")?;
-    write_maybe(out, name)?;
+    write_text_or_null(out, "name", name)?;
     out.end_object()
 }
 
@@ -88,8 +95,7 @@ fn write_person(
 {
     out.begin_object()?;
     write_text(out, "kind", kind.as_str())?;
-    out.key("name")?;
-    write_maybe(out, name)?;
+    write_text_or_null(out, "name", name)?;
     out.end_object()
 }
 
@@ -103,12 +109,9 @@ fn write_relationship(
         (data_tokens (details_data (Details.Relationship subject.now party.now interests.now))) }
 {
     out.begin_object()?;
-    out.key("interestedParty")?;
-    write_maybe(out, party)?;
-    out.key("interests")?;
-    write_array(out, interests)?;
-    out.key("subject")?;
-    write_maybe(out, subject)?;
+    write_text_or_null(out, "interestedParty", party)?;
+    write_items(out, "interests", interests)?;
+    write_text_or_null(out, "subject", subject)?;
     out.end_object()
 }
 
@@ -131,20 +134,27 @@ pub(crate) fn write_details(out: &mut Writer, details: &Details) -> Result<(), A
     }
 }
 
+/// Writes the texts that an open record ends with.
+pub(crate) fn write_labels(out: &mut Writer, entry: &Entry) -> Result<(), AllocError>
+    ensures { WritesBehind result out.old out.new (label_tokens entry.now) }
+{
+    let statement = &entry.statement;
+    write_text(out, "id", statement.id.as_str())?;
+    write_text(out, "record", statement.rec.as_str())?;
+    write_text(out, "status", entry.status.as_str())?;
+    write_text(out, "type", statement.record_type().as_str())
+}
+
 impl Shown for Entry {
     ghost as_data = { entry_data };
 
     fn write(&self, out: &mut Writer) -> Result<(), AllocError> {
         let statement = &self.statement;
         out.begin_object()?;
-        out.key("date")?;
-        write_day(out, statement.day)?;
+        write_date(out, "date", statement.day)?;
         out.key("details")?;
         write_details(out, &statement.details)?;
-        write_text(out, "id", statement.id.as_str())?;
-        write_text(out, "record", statement.rec.as_str())?;
-        write_text(out, "status", self.status.as_str())?;
-        write_text(out, "type", statement.record_type().as_str())?;
+        write_labels(out, self)?;
         out.end_object()
     }
 }

@@ -4,7 +4,7 @@ ghost use Rattle.std.specs.Prelude.{◌≡◌, ◌∷◌, [], List, ℕ, IfSome,
 ghost use Rattle.json.specs.Token.{key, string};
 ghost use Rattle.serde_json.specs.Data.{Data, string as text_data};
 ghost use Rattle.bor_terms.specs.Day.{day_text};
-ghost use Rattle.bor_wire.specs.Rendering.Values.{list_data, maybe_data, day_data};
+ghost use Rattle.bor_wire.specs.Rendering.Values.{list_data, maybe_data, day_data, count_data};
 ghost use Rattle.bor_wire.specs.Rendering.Parts.{WritesBehind, data_tokens};
 
 use bor_terms::{Day, Form, Text};
@@ -38,6 +38,22 @@ pub(crate) fn write_text(out: &mut Writer, name: &str, text: &str) -> Result<(),
     out.string(text)
 }
 
+/// Writes a member of an object that is a day.
+pub(crate) fn write_date(out: &mut Writer, name: &str, day: Day) -> Result<(), AllocError>
+    ensures { WritesBehind result out.old out.new (key name.now ∷ data_tokens (day_data day)) }
+{
+    out.key(name)?;
+    write_day(out, day)
+}
+
+/// Writes a member of an object that is a number.
+pub(crate) fn write_number(out: &mut Writer, name: &str, n: u64) -> Result<(), AllocError>
+    ensures { WritesBehind result out.old out.new (key name.now ∷ data_tokens (count_data n)) }
+{
+    out.key(name)?;
+    out.u64(n)
+}
+
 /// Writes a text, or null where there is none.
 pub(crate) fn write_maybe<F: Form>(
     out: &mut Writer,
@@ -51,6 +67,19 @@ pub(crate) fn write_maybe<F: Form>(
     }
 }
 
+/// Writes a member of an object that is a text, or null where there is none.
+pub(crate) fn write_text_or_null<F: Form>(
+    out: &mut Writer,
+    name: &str,
+    text: &Option<Text<F>>,
+) -> Result<(), AllocError>
+    ensures { WritesBehind result out.old out.new
+        (key name.now ∷ data_tokens (maybe_data text_data text.now)) }
+{
+    out.key(name)?;
+    write_maybe(out, text)
+}
+
 /// Writes an array of items.
 pub(crate) fn write_array<T: Shown>(out: &mut Writer, items: &[T]) -> Result<(), AllocError>
     ensures { WritesBehind result out.old out.new (data_tokens (list_data T.as_data items.now)) }
@@ -60,4 +89,17 @@ pub(crate) fn write_array<T: Shown>(out: &mut Writer, items: &[T]) -> Result<(),
         item.write(out)?;
     }
     out.end_array()
+}
+
+/// Writes a member of an object that is an array of items.
+pub(crate) fn write_items<T: Shown>(
+    out: &mut Writer,
+    name: &str,
+    items: &[T],
+) -> Result<(), AllocError>
+    ensures { WritesBehind result out.old out.new
+        (key name.now ∷ data_tokens (list_data T.as_data items.now)) }
+{
+    out.key(name)?;
+    write_array(out, items)
 }

@@ -33,10 +33,13 @@ pub struct Asking {
 fn node_named(alloc: Global, pairs: &[QueryPair<'_>]) -> Result<Node, WireFault>
     ensures { FindsStated (λ node. node) result (node_by_steps (pair_texts pairs.now)) }
 {
+    let agent = agent_named(alloc, pairs, Name::Agent)?;
+    let declaration = ident_named(alloc, pairs, Name::Declaration)?;
+    let rec = ident_named(alloc, pairs, Name::Record)?;
     Ok(Node {
-        agent: agent_named(alloc, pairs, Name::Agent)?,
-        declaration: ident_named(alloc, pairs, Name::Declaration)?,
-        rec: ident_named(alloc, pairs, Name::Record)?,
+        agent,
+        declaration,
+        rec,
     })
 }
 
@@ -46,10 +49,9 @@ fn identifier_named(alloc: Global, pairs: &[QueryPair<'_>]) -> Result<Identifier
     ensures { FindsStated (λ identifier. identifier) result
         (identifier_by_steps (pair_texts pairs.now)) }
 {
-    Ok(Identifier {
-        scheme: text_named(alloc, pairs, Name::Scheme)?,
-        id: text_named(alloc, pairs, Name::Id)?,
-    })
+    let scheme = text_named(alloc, pairs, Name::Scheme)?;
+    let id = text_named(alloc, pairs, Name::Id)?;
+    Ok(Identifier { scheme, id })
 }
 
 #[tactic(auto, unfolding(crate::specs::Spelling::Steps::lodging_by_steps))]
@@ -73,19 +75,19 @@ fn lodging_for(
 fn snapshot_for(alloc: Global, pairs: &[QueryPair<'_>]) -> Result<Request, WireFault>
     ensures { FindsStated (λ request. request) result (snapshot_by_steps (pair_texts pairs.now)) }
 {
+    let agent = agent_named(alloc, pairs, Name::Agent)?;
+    let declaration = ident_named(alloc, pairs, Name::Declaration)?;
+    let date = day_if_named(pairs, Name::Date)?;
     Ok(Request::Agent(AgentRequest::Snapshot {
-        agent: agent_named(alloc, pairs, Name::Agent)?,
-        declaration: ident_named(alloc, pairs, Name::Declaration)?,
-        date: day_if_named(pairs, Name::Date)?,
+        agent,
+        declaration,
+        date,
     }))
 }
 
 // The entity that a query names, and the date, where it has one.
 #[tactic(auto, unfolding(crate::specs::Spelling::Steps::entity_by_steps))]
-fn entity_named(
-    alloc: Global,
-    pairs: &[QueryPair<'_>],
-) -> Result<(Node, Option<Day>), WireFault>
+fn entity_named(alloc: Global, pairs: &[QueryPair<'_>]) -> Result<(Node, Option<Day>), WireFault>
     ensures { FindsStated (λ found. found) result (entity_by_steps (pair_texts pairs.now)) }
 {
     let entity = node_named(alloc, pairs)?;

@@ -164,5 +164,6 @@ pub(crate) fn day_if_named(pairs: &[QueryPair<'_>], name: Name) -> Result<Option
     if count_pairs(pairs, name.as_str()) == 0 {
         return Ok(None);
     }
-    Ok(Some(day_named(pairs, name)?))
+    let day = day_named(pairs, name)?;
+    Ok(Some(day))
 }

@@ -10,10 +10,8 @@ returns c =
     ) at (
     wrote c.in_ok-begin_object.ensures (
     added c.in_ok-write_text.ensures (
-    wrote c.in_ok-key.ensures (
-    added c.in_ok-write_day.ensures (
+    added c.in_ok-write_date.ensures (
     added c.in_ok-write_text-2.ensures (
-    wrote c.in_ok-key-2.ensures (
-    added c.in_ok-write_array.ensures (
+    added c.in_ok-write_items.ensures (
     added c.in_ok-write_text-3.ensures (
-    ended c.end_object.ensures)))))))))
+    ended c.end_object.ensures)))))))

@@ -8,10 +8,8 @@ returns c =
       c.as_str-2.ensures.value,
     ) at (
     wrote c.in_ok-begin_object.ensures (
-    wrote c.in_ok-key.ensures (
-    added c.in_ok-write_day.ensures (
-    wrote c.in_ok-key-2.ensures (
-    added c.in_ok-write_array.ensures (
+    added c.in_ok-write_date.ensures (
+    added c.in_ok-write_items.ensures (
     added c.in_ok-write_text.ensures (
     added c.in_ok-write_text-2.ensures (
-    ended c.end_object.ensures))))))))
+    ended c.end_object.ensures))))))

@@ -1,6 +1,9 @@
-use Rattle.std.proofs.Common.{append_assoc, rules}
-use Rattle.std.proofs.lemmas.Result.{IfOk-equal}
+use Rattle.bor_wire.proofs.OnRendering.Writing.{added, ended, wrote}
 use Rattle.bor_wire.proofs.rendering.body.write_register.Goals as goal
 
 pub returns : goal.returns
-returns c = search (rules, IfOk-equal, append_assoc)
+returns c =
+    wrote c.in_ok-begin_object.ensures (
+    added c.in_ok-write_items.ensures (
+    added c.in_ok-write_date.ensures (
+    ended c.end_object.ensures)))

@@ -4,8 +4,6 @@ use Rattle.bor_wire.proofs.rendering.body.write_snapshot.Goals as goal
 pub returns : goal.returns
 returns c =
     wrote c.in_ok-begin_object.ensures (
-    wrote c.in_ok-key.ensures (
-    added c.in_ok-write_day.ensures (
-    wrote c.in_ok-key-2.ensures (
-    added c.in_ok-write_array.ensures (
-    ended c.end_object.ensures)))))
+    added c.in_ok-write_date.ensures (
+    added c.in_ok-write_items.ensures (
+    ended c.end_object.ensures)))

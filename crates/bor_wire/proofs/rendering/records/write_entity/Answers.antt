@@ -5,9 +5,7 @@ pub returns : goal.returns
 returns c =
     rw c.as_str.ensures at (
     wrote c.in_ok-begin_object.ensures (
-    wrote c.in_ok-key.ensures (
-    added c.in_ok-write_array.ensures (
+    added c.in_ok-write_items.ensures (
     added c.in_ok-write_text.ensures (
-    wrote c.in_ok-key-2.ensures (
-    added c.in_ok-write_maybe.ensures (
-    ended c.end_object.ensures)))))))
+    added c.in_ok-write_text_or_null.ensures (
+    ended c.end_object.ensures)))))

@@ -1,4 +1,4 @@
-use Rattle.bor_wire.proofs.OnRendering.Writing.{ended, wrote}
+use Rattle.bor_wire.proofs.OnRendering.Writing.{added, ended, wrote}
 use Rattle.bor_wire.proofs.rendering.records.write_span.Goals as goal
 
 pub returns : goal.returns
@@ -12,12 +12,8 @@ returns c =
       c.low_is_open.ensures,
     ) at (
     wrote c.in_ok-begin_object.ensures (
-    wrote c.in_ok-key.ensures (
-    wrote c.in_ok-u64.ensures (
-    wrote c.in_ok-key-2.ensures (
-    wrote c.in_ok-boolean.ensures (
-    wrote c.in_ok-key-3.ensures (
-    wrote c.in_ok-u64-2.ensures (
-    wrote c.in_ok-key-4.ensures (
-    wrote c.in_ok-boolean-2.ensures (
-    ended c.end_object.ensures))))))))))
+    added c.in_ok-write_number.ensures (
+    added c.in_ok-write_flag.ensures (
+    added c.in_ok-write_number-2.ensures (
+    added c.in_ok-write_flag-2.ensures (
+    ended c.end_object.ensures))))))

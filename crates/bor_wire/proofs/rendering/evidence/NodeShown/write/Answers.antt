@@ -3,13 +3,8 @@ use Rattle.bor_wire.proofs.rendering.evidence.NodeShown.write.Goals as goal
 
 pub returns : goal.returns
 returns c =
-    rw (
-      c.as_str.ensures.value,
-      c.as_str-2.ensures.value,
-      c.as_str-3.ensures.value,
-    ) at (
+    rw c.as_str.ensures.value at (
     wrote c.in_ok-begin_object.ensures (
+    added c.in_ok-write_declaration.ensures (
     added c.in_ok-write_text.ensures (
-    added c.in_ok-write_text-2.ensures (
-    added c.in_ok-write_text-3.ensures (
-    ended c.end_object.ensures)))))
+    ended c.end_object.ensures))))

@@ -9,10 +9,8 @@ returns c =
       c.from.ensures,
     ) at (
     wrote c.in_ok-begin_object.ensures (
-    wrote c.in_ok-key.ensures (
-    added c.in_ok-write_day.ensures (
-    wrote c.in_ok-key-2.ensures (
-    wrote c.in_ok-u64.ensures (
+    added c.in_ok-write_date.ensures (
+    added c.in_ok-write_number.ensures (
     added c.in_ok-write_text.ensures (
     added c.in_ok-write_text-2.ensures (
-    ended c.end_object.ensures))))))))
+    ended c.end_object.ensures))))))

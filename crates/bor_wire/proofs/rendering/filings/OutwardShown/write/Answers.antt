@@ -9,8 +9,6 @@ returns c =
     ) at (
     wrote c.in_ok-begin_object.ensures (
     added c.in_ok-write_text.ensures (
-    wrote c.in_ok-key.ensures (
-    added c.in_ok-write_day.ensures (
-    wrote c.in_ok-key-2.ensures (
-    added c.in_ok-write_array.ensures (
-    ended c.end_object.ensures)))))))
+    added c.in_ok-write_date.ensures (
+    added c.in_ok-write_items.ensures (
+    ended c.end_object.ensures)))))

@@ -12,11 +12,10 @@ returns c =
       c.record_type.ensures,
     ) at (
     wrote c.in_ok-begin_object.ensures (
-    wrote c.in_ok-key.ensures (
-    added c.in_ok-write_day.ensures (
+    added c.in_ok-write_date.ensures (
     added c.in_ok-write_text.ensures (
     added c.in_ok-write_text-2.ensures (
     added c.in_ok-write_text-3.ensures (
     added c.in_ok-write_text-4.ensures (
     added c.in_ok-write_text-5.ensures (
-    ended c.end_object.ensures)))))))))
+    ended c.end_object.ensures))))))))

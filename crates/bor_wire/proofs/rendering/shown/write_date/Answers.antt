@@ -1,0 +1,7 @@
+use Rattle.bor_wire.proofs.OnRendering.Writing.{wrote}
+use Rattle.bor_wire.proofs.rendering.shown.write_date.Goals as goal
+
+pub returns : goal.returns
+returns c =
+    wrote c.in_ok-key.ensures (
+    c.write_day.ensures)

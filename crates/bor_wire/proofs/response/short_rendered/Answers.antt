@@ -1,0 +1,7 @@
+use Rattle.std.proofs.Common.{◌∙◌}
+use Rattle.bor_wire.specs.Rendering.Replies.{answered}
+use Rattle.bor_wire.proofs.Responses.{said_full}
+use Rattle.bor_wire.proofs.response.short_rendered.Goals as goal
+
+pub full-requires : goal.full-requires
+full-requires c = said_full (answered c.args.reply.now) _ _ (c.as_u16.ensures.value ∙ c.desk_status.ensures) c.render_short.ensures c.requires.status
