@@ -64,11 +64,10 @@ fn lodging_for(
     ensures { FindsStated (λ request. request) result
         (lodging_by_steps path.now (pair_texts pairs.now) body.now) }
 {
-    Ok(Request::Agent(AgentRequest::Lodge {
-        key: key_at(alloc, path)?,
-        due: day_named(pairs, Name::Due)?,
-        file: Listed::new(Vec::from_slice(alloc, body)?),
-    }))
+    let key = key_at(alloc, path)?;
+    let due = day_named(pairs, Name::Due)?;
+    let file = Listed::new(Vec::from_slice(alloc, body)?);
+    Ok(Request::Agent(AgentRequest::Lodge { key, due, file }))
 }
 
 #[tactic(auto, unfolding(crate::specs::Spelling::Steps::snapshot_by_steps))]
@@ -99,10 +98,9 @@ fn entity_named(alloc: Global, pairs: &[QueryPair<'_>]) -> Result<(Node, Option<
 fn entities_for(alloc: Global, pairs: &[QueryPair<'_>]) -> Result<Request, WireFault>
     ensures { FindsStated (λ request. request) result (entities_by_steps (pair_texts pairs.now)) }
 {
-    Ok(Request::Agent(AgentRequest::Entities {
-        identifier: identifier_named(alloc, pairs)?,
-        date: day_if_named(pairs, Name::Date)?,
-    }))
+    let identifier = identifier_named(alloc, pairs)?;
+    let date = day_if_named(pairs, Name::Date)?;
+    Ok(Request::Agent(AgentRequest::Entities { identifier, date }))
 }
 
 #[tactic(auto, unfolding(crate::specs::Spelling::Steps::enrolment_by_steps))]
@@ -110,20 +108,18 @@ fn enrolment_for(alloc: Global, pairs: &[QueryPair<'_>], body: &[u8]) -> Result<
     ensures { FindsStated (λ request. request) result
         (enrolment_by_steps (pair_texts pairs.now) body.now) }
 {
-    Ok(Request::Registrar(RegistrarRequest::Enrol {
-        name: agent_named(alloc, pairs, Name::Name)?,
-        token: new_token(alloc, body)?,
-    }))
+    let name = agent_named(alloc, pairs, Name::Name)?;
+    let token = new_token(alloc, body)?;
+    Ok(Request::Registrar(RegistrarRequest::Enrol { name, token }))
 }
 
 #[tactic(auto, unfolding(crate::specs::Spelling::Steps::renewal_by_steps))]
 fn renewal_for(alloc: Global, path: &[u8], body: &[u8]) -> Result<Request, WireFault>
     ensures { FindsStated (λ request. request) result (renewal_by_steps path.now body.now) }
 {
-    Ok(Request::Registrar(RegistrarRequest::Renew {
-        name: name_at(alloc, path)?,
-        token: new_token(alloc, body)?,
-    }))
+    let name = name_at(alloc, path)?;
+    let token = new_token(alloc, body)?;
+    Ok(Request::Registrar(RegistrarRequest::Renew { name, token }))
 }
 
 // The request that a route asks for, from a message's path, the pairs of its query and its body.

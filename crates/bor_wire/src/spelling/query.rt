@@ -1,6 +1,6 @@
 //! The pairs of a query, and the values of its names.
 
-ghost use Rattle.std.specs.Prelude.{◌≡◌, IfOk};
+ghost use Rattle.std.specs.Prelude.{◌≡◌, ◌∷◌, [], ◌++◌, IfOk, OnOk};
 ghost use Rattle.std.specs.Option.{option_map};
 ghost use Rattle.bor_terms.specs.Texts.{is_agent_name, is_ident};
 ghost use Rattle.bor_terms.specs.Day.{day_of};
@@ -30,10 +30,23 @@ fn decoded_pair<'a>(
 ) -> Result<QueryPair<'a>, AllocError>
     ensures { IfOk result (λ pair. pair_text pair ≡ decoded (name.now, value.now)) }
 {
-    Ok(QueryPair {
-        name: decode(alloc, name)?,
-        value: decode(alloc, value)?,
-    })
+    let name = decode(alloc, name)?;
+    let value = decode(alloc, value)?;
+    Ok(QueryPair { name, value })
+}
+
+// Puts a pair behind the others.
+fn push_pair<'a>(
+    alloc: Global,
+    pairs: &mut Vec<QueryPair<'a>>,
+    name: &'a [u8],
+    value: &'a [u8],
+) -> Result<(), AllocError>
+    ensures { OnOk result (pair_texts pairs.new.items
+        ≡ pair_texts pairs.old.items ++ (decoded (name.now, value.now) ∷ [])) }
+{
+    let pair = decoded_pair(alloc, name, value)?;
+    Ok(pairs.push(pair)?)
 }
 
 /// The pairs of a query.
@@ -42,7 +55,7 @@ pub(crate) fn query_pairs(alloc: Global, query: &[u8]) -> Result<Vec<QueryPair<'
 {
     let mut pairs = Vec::new(alloc);
     for (name, value) in raw_pairs(query) {
-        pairs.push(decoded_pair(alloc, name, value)?)?;
+        push_pair(alloc, &mut pairs, name, value)?;
     }
     Ok(pairs)
 }
@@ -137,7 +150,8 @@ pub(crate) fn text_named(
     if !Ident::fits(text) {
         return Err(WireFault::Refused(Refusal::BadQuery(name)));
     }
-    Ok(FreeText::new(alloc, String::from_str(alloc, text)?)?)
+    let text = String::from_str(alloc, text)?;
+    Ok(FreeText::new(alloc, text)?)
 }
 
 /// The day of this name's value.
