@@ -1,5 +1,7 @@
 -- The statement that a record shows on a day, from the rows of its series.
-use Rattle.std.proofs.Common.{◌≡◌, List, [], ◌∷◌, ◌++◌, Vec, Global, Ok, map, Bool, true, false, Option, Some, None, option_map, option_and_then, refl, sym, ap, ◌∙◌, ◌&&◌, filter, int_le, if◌then◌else◌}
+use Rattle.std.proofs.Common.{◌≡◌, ◌-◌, ◌<◌, List, [], ◌∷◌, ◌++◌, Vec, Global, Ok, map, Bool, true, false, Option, Some, None, option_map, option_and_then, refl, sym, ap, ◌∙◌, ◌&&◌, filter, int_le, if◌then◌else◌, slice_get, length, get_or, vec_len, ap₂, arith}
+use Rattle.std.specs.Option.{option_to_list}
+use Rattle.std.proofs.lemmas.Option.{get_or_from_slice_get, slice_get_within}
 use Rattle.std.specs.List.{last_or}
 use Rattle.sqlite_keyed.proofs.ListLemmas.{filter-map}
 use Rattle.bor_records.specs.declared.row.Row.{Row}
@@ -72,13 +74,21 @@ module _ (view : View) (n : Node) (r : Register) (stored : IsStored r) where
 
 -- ---- the last row that is told
 
-module _ (test : Register → StatementRow → Bool) (whole rest : List StatementRow) {old mid new : State} {rows : Vec StatementRow Global} {row : StatementRow} {told : Bool}
-    (before : ReadsAs old mid (Ok rows) (λ r left. last_or None (filter (test r) whole) ≡ last_or None (filter (test r) left.items))) (left : rows.items ≡ rest ++ row ∷ []) (asked : ReadsAs mid new (Ok told) (λ r is. is ≡ test r row)) where
+module _ (test : Register → StatementRow → Bool) (whole shown rest : List StatementRow) {old mid new : State} {rows : Vec StatementRow Global} {row : StatementRow} {end : Option StatementRow} {told : Bool}
+    (before : ReadsAs old mid (Ok rows) (λ r left. last_or None (filter (test r) whole) ≡ last_or None (filter (test r) left.items))) (asked : ReadsAs mid new (Ok told) (λ r is. is ≡ test r row))
+    (same : shown ≡ rows.items) (len : length shown ≡ vec_len rows) (last : Some row ≡ slice_get shown (length shown - 1)) (parts : rows.items ≡ rest ++ option_to_list end) (popped : (d : StatementRow) → 0 < vec_len rows → end ≡ Some (get_or rows.items (vec_len rows - 1) d)) where
+  popped_last : (end ≡ Some row) × (rows.items ≡ rest ++ row ∷ [])
+  popped_last =
+      let is : slice_get rows.items (vec_len rows - 1) ≡ Some row = ap₂ (λ l n. slice_get l (n - 1)) (sym same) (sym len) ∙ sym last in
+      let own = slice_get_within rows.items (vec_len rows - 1) row is in
+      let e : end ≡ Some row = popped row (omega (arith, own, len, ap length same)) ∙ ap Some (get_or_from_slice_get rows.items (vec_len rows - 1) row row is) in
+      (e, parts ∙ ap (λ o. rest ++ option_to_list o) e)
+
   -- the one behind the others is
-  pub found_last : told ≡ true → ReadsAs old new (Ok (Some row)) (λ r last. last ≡ last_or None (filter (test r) whole))
-  found_last is_told = read_so (read_next before asked) (λ r stored is. last_passes (test r) rows.items rest row left (sym is.1 ∙ is_told) ∙ sym is.0)
+  pub found_last : told ≡ true → ReadsAs old new (Ok end) (λ r last. last ≡ last_or None (filter (test r) whole))
+  found_last is_told = read_so (read_next before asked) (λ r stored is. popped_last.0 ∙ last_passes (test r) rows.items rest row popped_last.1 (sym is.1 ∙ is_told) ∙ sym is.0)
 
   -- it isn't, so that the others are left
   pub passed_last : {more : Vec StatementRow Global} → more.items ≡ rest → told ≡ false → ReadsAs old new (Ok more) (λ r left. last_or None (filter (test r) whole) ≡ last_or None (filter (test r) left.items))
   passed_last same not_told = read_so (read_next before asked)
-      (λ r stored is. is.0 ∙ last_before (test r) rows.items rest row left (sym is.1 ∙ not_told) ∙ ap (λ l. last_or None (filter (test r) l)) (sym same))
+      (λ r stored is. is.0 ∙ last_before (test r) rows.items rest row popped_last.1 (sym is.1 ∙ not_told) ∙ ap (λ l. last_or None (filter (test r) l)) (sym same))

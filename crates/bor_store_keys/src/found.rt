@@ -1,6 +1,6 @@
 //! The answers that a report last read, for one viewer and day.
 
-ghost use Rattle.std.specs.Prelude.{◌≡◌, None, Option, Some, IfOk, IfSome, OnOk};
+ghost use Rattle.std.specs.Prelude.{◌≡◌, true, None, Option, Some, IfOk, IfSome, IsSomeAnd, OnOk};
 ghost use Rattle.bor_records.specs.declared.links.node.NodeInfo.{NodeInfo};
 ghost use Rattle.bor_records.specs.declared.links.node.OpenNode.{OpenNode};
 ghost use Rattle.bor_records.specs.Links.ByKey.{node_at};
@@ -203,18 +203,26 @@ impl Found {
     }
 }
 
+// Whether answers were found for this view.
+fn is_for(found: &Option<Found>, view: &View) -> bool
+    ensures { result ≡ true → IsSomeAnd found.now (λ one. one.view ≡ view.now) }
+{
+    match found {
+        Some(one) => one.view.is(view),
+        None => false,
+    }
+}
+
 /// The answers that were found, which are taken out where they are for this view.
 pub(crate) fn taken(found: &mut Option<Found>, view: &View) -> Option<Found>
     ensures left { result ≡ None → found.new ≡ found.old }
     ensures view { IfSome result (λ one. one.view ≡ view.now) }
     ensures was { IfSome result (λ one. found.old ≡ Some one) }
 {
-    match found.take() {
-        Some(one) if one.view.is(view) => Some(one),
-        other => {
-            *found = other;
-            None
-        }
+    if is_for(found, view) {
+        found.take()
+    } else {
+        None
     }
 }
 

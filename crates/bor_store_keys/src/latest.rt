@@ -18,6 +18,7 @@ use bor_store_sql::rows::StatementRow;
 use bor_terms::AgentName;
 use sqlite::Alter;
 use std::alloc::Global;
+use std::mem::drop;
 
 // Whether the agent's statement is dated at or before the day, and seen by the viewer.
 fn is_told<S: Alter + Drop>(
@@ -48,10 +49,11 @@ fn last_told<S: Alter + Drop>(
         last ≡ last_or None
         (filter (is_row_seen view.now agent.now (filings_of agent.now r.members)) rows.items)) }
 {
-    while let Some(row) = rows.pop() {
-        if is_told(lookup, alloc, view, agent, &row)? {
-            return Ok(Some(row));
+    while let Some(row) = rows.last() {
+        if is_told(lookup, alloc, view, agent, row)? {
+            return Ok(rows.pop());
         }
+        drop(rows.pop());
     }
     Ok(None)
 }
