@@ -95,7 +95,7 @@ const CALLS: [(Ask<'static>, &str); 27] = [
         ("registrar POST /day?date=2024-03-01", ""),
         "who day set_day",
     ),
-    (("registrar GET /register", ""), "who agents day"),
+    (("registrar GET /register", ""), "who day agents"),
     (
         ("registrar PUT /agents/alder", "cedar-token-000001"),
         "who has_agent who set_token",
