@@ -94,6 +94,7 @@ fn each(alloc: Global, values: &[Value]) -> Result<Vec<Interest>, Trouble>
     let mut interests = Vec::new(alloc);
     for value in values {
         let interest = interest(value)?;
+        // (the prover finds the type of a share by this line)
         let share = interest.share;
         interests.push(Interest { share, ..interest })?;
     }

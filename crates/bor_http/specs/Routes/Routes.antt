@@ -47,8 +47,8 @@ every_route =
 abbrev pub line_said : Path × Bor (List ℕ) × Route → Line × Route
 line_said line = (by line.1.now line.0, line.2)
 
-abbrev pub table : List (Line × Route)
-table = map (λ route. (route_line route, route)) every_route
+abbrev pub route_table : List (Line × Route)
+route_table = map (λ route. (route_line route, route)) every_route
 
 abbrev pub is_same_path : Path → Path → Bool
 is_same_path a b = bytes_eq (path_word a) (path_word b)

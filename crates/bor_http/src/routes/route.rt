@@ -56,7 +56,7 @@ const ROUTES: [(Path, &str, Route); 13] = [
 
 // The lines of the table.
 pub(super) fn lines() -> &'static [(Path, &'static str, Route)]
-    ensures { map spec.line_said result.now ≡ spec.table }
+    ensures { map spec.line_said result.now ≡ spec.route_table }
 {
     &ROUTES
 }
